@@ -9,7 +9,7 @@ import re
 
 from answers import Failure, judge_steps, must, play, s1ap, texts
 from events import EVENTS, MESSAGES, Arrival, Event, sent_by
-from scenes import UNCONNECTED, lte, scene_of
+from scenes import PHASES, UNCONNECTED, lte, scene_of
 
 AGE = 2  # ticks in a phase before the event
 LONG = 3600  # ticks after which nothing comes
@@ -19,7 +19,14 @@ FRESH = 8  # what the phone's uplink count goes up by, for one that no event had
 # What completes an update, by the phase.
 COMPLETED = {"Updating": ["RELEASE nas normal-release"], "Updating connected": []}
 
+# The words for what comes next that say the timers too, and the phases that fall back to being registered.
+STAYS, FALLS, REGISTERED = "stays", "falls", ("Registered connected", "Updating", "Updating connected")
+OLD = "old: "
+
 Row = collections.namedtuple("Row", "phase event sent next timer")
+# A machine in a phase: its heading, its events, for each of which there must be a row, the headings of the tables with further rows,
+# and its timers.
+Machine = collections.namedtuple("Machine", "heading phase events shared timers")
 
 
 # --- What the document says ---
@@ -34,13 +41,40 @@ def events_in(cell, groups):
                 yield member + (" (%s)" % variant if variant else "")
 
 
-def rows_of(document, heading, phase):
-    """The rows under a heading, one for each event."""
-    groups, found = dict(document["Groups"]), []
+def next_of(machine, following, timer):
+    """The phase after an event and what runs then."""
+    if following == STAYS:
+        return machine.phase, ", ".join(name + " goes on" for name in machine.timers) or NOTHING
+    if following == FALLS:
+        return ("Registered idle", "reachable") if machine.phase in REGISTERED else ("Deregistered", NOTHING)
+    return following, timer
+
+
+def rows_under(document, heading, machine):
+    """The rows under a heading as they are for a machine, one for each event."""
+    groups = dict(document["Groups"])
     for heard, sent, following, *timer in document.get(heading, []):
         messages = [] if sent == NOTHING else sent.split("; ")
-        found += [Row(phase, event, messages, following, "".join(timer)) for event in events_in(heard, groups)]
-    return found
+        if machine.phase in UNCONNECTED:
+            messages = [text for text in messages if not text.startswith(OLD)]
+        for event in events_in(heard, groups):
+            yield Row(machine.phase, event, messages, *next_of(machine, following, "".join(timer)))
+
+
+def rows_of(document, machine):
+    """The rows of a machine: its own, and those of the tables for several phases, of events that there are and that have no own."""
+    own = list(rows_under(document, machine.heading, machine))
+    others = set(machine.events) - {row.event for row in own}
+    return own + [row for heading in machine.shared for row in rows_under(document, heading, machine) if row.event in others]
+
+
+def phases_in(cell):
+    """The phases of a cell: all, all but some, or these."""
+    if cell == "all":
+        return list(PHASES)
+    but = cell.removeprefix("all but ")
+    named = but.split(", ")
+    return named if but == cell else [phase for phase in PHASES if phase not in named]
 
 
 class Facts:
@@ -53,6 +87,7 @@ class Facts:
             self.timers[phase] = [] if timers == NOTHING else timers.split(", ")
             self.again[phase] = again
         self.lengths = {name: (int(ticks), int(repeats)) for name, ticks, repeats, *_ in profile["Timers"]}
+        self.shared = {heading: phases_in(phases) for heading, phases in document["Rows of several phases"]}
 
     def timer_events(self):
         """The ends of each phase's timers, as events."""
@@ -65,10 +100,12 @@ class Facts:
                     yield phase, timer + " ends (repeats used up)"
 
 
-def events_of(facts, phase):
-    """The events of a phase, for each of which there must be a row."""
-    named = [name for name, event in EVENTS.items() if phase in event.phases]
-    return named + [name for at, name in facts.timer_events() if at == phase]
+def machine_in(facts, phase):
+    """The machine in a phase."""
+    events = [name for name, event in EVENTS.items() if phase in event.phases]
+    events += [name for at, name in facts.timer_events() if at == phase]
+    shared = [heading for heading, phases in facts.shared.items() if phase in phases]
+    return Machine(phase, phase, events, shared, facts.timers[phase])
 
 
 # --- A row's trial ---
@@ -242,7 +279,7 @@ class Trial:
         if pages:
             must(pages == [station.number for station in self.scene.paged_at], "PAGING goes to %s", pages)
             sent = [message for message in sent if message.text != "PAGING" or message.station == pages[0]]
-        plain = [text.removeprefix("old: ").removeprefix("aside: ") for text in wanted]
+        plain = [text.removeprefix(OLD).removeprefix("aside: ") for text in wanted]
         must(texts(sent) == "; ".join(plain), "sent is %s", texts(sent) or "nothing")
         for text, message in zip(wanted, sent):
             if message.text != "PAGING":
@@ -252,7 +289,7 @@ class Trial:
 
     def judge_place(self, text, message, place):
         """The message's ids and station."""
-        if text.startswith("old: "):
+        if text.startswith(OLD):
             place = self.before
         elif text.startswith(("aside: ", "ERROR", "PATH SWITCH")):
             place = self.about

@@ -1,4 +1,4 @@
-"""Tries each row of docs/TABLE.md by the built program.
+"""Tries each row of docs/TABLE.md by the built program, in each phase that it holds for.
 
 A row that is missing, or stands twice, fails too: each phase has a row for each event that there is in it.
 """
@@ -12,19 +12,22 @@ import tables
 from answers import PROGRAM
 from scenes import PHASES
 
-OTHER_TABLES = {"What is heard", "What is sent", "Phases", "Groups"}
+OTHER_TABLES = {"What is heard", "What is sent", "What comes next", "Phases", "Groups", "Rows of several phases"}
+OF_STRANGERS, OF_STATIONS = ["Every stranger"], ["Connected station"]
 
 
-def kinds(facts):
-    """The machines: each heading, its phase, the events that there must be rows for, and what judges a row."""
+def machines(facts):
+    """The machines in each of their phases, each with what judges a row."""
     for phase in PHASES:
-        yield phase, phase, subscribers.events_of(facts, phase), subscribers.judged
+        yield subscribers.machine_in(facts, phase), subscribers.judged
     for state in strangers.STATES:
         events = [name for name, (states, _) in strangers.EVENTS.items() if state in states]
-        timers = ["T3470 ends", "T3470 ends (repeats used up)"] if state == "waiting" else []
-        yield "Stranger " + state, state, events + timers, strangers.judged
+        timers = ["T3470"] if state == "waiting" else []
+        events += [timer + end for timer in timers for end in (" ends", " ends (repeats used up)")]
+        yield subscribers.Machine("Stranger " + state, state, events, OF_STRANGERS, timers), strangers.judged
     for state in stations.PROBED:
-        yield "Station " + state, state, list(stations.EVENTS), stations.judged
+        shared = OF_STATIONS if state != "down" else []
+        yield subscribers.Machine("Station " + state, state, list(stations.EVENTS), shared, []), stations.judged
 
 
 def phases_in_code():
@@ -44,16 +47,28 @@ def unmatched(rows, events):
             yield "there is no event %s" % event
 
 
+def unused(document, facts):
+    """The rows for several phases of events that none of these has."""
+    made = [machine for machine, _ in machines(facts)]
+    for heading in sorted({heading for machine in made for heading in machine.shared}):
+        sharing = [machine for machine in made if heading in machine.shared]
+        rows = subscribers.rows_under(document, heading, sharing[0])
+        for event in {row.event for row in rows}.difference(*(machine.events for machine in sharing)):
+            yield "%s: there is no event %s in a phase that these rows hold for" % (heading, event)
+
+
 def about_phases(document, facts):
     """What is wrong with the phases' names, their words and the headings."""
     named = {phase.split()[0] for phase in facts.words}
     for phase in named ^ phases_in_code():
         yield "Phases: %s isn't there, or not in the code" % phase
+    for phase in set().union(*facts.shared.values()) - set(PHASES):
+        yield "Rows of several phases: there is no phase %s" % phase
     text = tables.text("docs/TABLE.md")
     for phase, words in facts.words.items():
         if "\n## %s\n\nPrinted `%s`." % (phase, words) not in text:
             yield "%s: the words under the heading are others" % phase
-    known = OTHER_TABLES | {heading for heading, *_ in kinds(facts)}
+    known = OTHER_TABLES.union(*({machine.heading, *machine.shared} for machine, _ in machines(facts)))
     for heading in known ^ set(document):
         yield "%s: a table that is missing, or is no machine's" % heading
 
@@ -65,20 +80,20 @@ def checked(wanted=()):
         return 0, 1
     document, profile = tables.read("docs/TABLE.md"), tables.read("docs/PROFILE.md")
     facts = subscribers.Facts(document, profile)
-    passed, faults = 0, list(about_phases(document, facts))
-    for heading, phase, events, judge in kinds(facts):
-        if wanted and heading not in wanted:
+    passed, faults = 0, [*about_phases(document, facts), *unused(document, facts)]
+    for machine, judge in machines(facts):
+        if wanted and machine.heading not in wanted:
             continue
         try:
-            rows = subscribers.rows_of(document, heading, phase)
+            rows = subscribers.rows_of(document, machine)
         except ValueError as fault:
             rows = []
-            faults.append("%s: a row with too few cells: %s" % (heading, fault))
-        faults += ["%s: %s" % (heading, fault) for fault in unmatched(rows, events)]
+            faults.append("%s: a row with too few cells: %s" % (machine.heading, fault))
+        faults += ["%s: %s" % (machine.heading, fault) for fault in unmatched(rows, machine.events)]
         for row in rows:
-            fault = judge(row, facts) if row.event in events else None
+            fault = judge(row, facts) if row.event in machine.events else None
             passed += not fault
-            faults += ["%s, %s: %s" % (heading, row.event, fault)] if fault else []
+            faults += ["%s, %s: %s" % (machine.heading, row.event, fault)] if fault else []
     for fault in faults:
         print("FAILED TABLE.md, " + fault)
     return passed, len(faults)

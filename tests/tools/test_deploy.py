@@ -339,7 +339,7 @@ class Container(unittest.TestCase):
         words = self.within(root, self.words("ENTRYPOINT") + self.words("CMD")) + ["--tcp", "--port", "0"]
         alone = {"env": {"PATH": os.environ["PATH"]}, "cwd": "/", "stderr": subprocess.DEVNULL}
 
-        def is_healthy(seconds=10):
+        def is_healthy(seconds=30):
             with contextlib.suppress(subprocess.TimeoutExpired):
                 check = self.within(root, self.words("HEALTHCHECK"))
                 done = subprocess.run(check, stdout=subprocess.PIPE, timeout=seconds, check=False, **alone)
@@ -358,7 +358,7 @@ class Container(unittest.TestCase):
         for is_first in (True, False):
             with subprocess.Popen(words, **alone) as running:
                 try:
-                    end = time.monotonic() + 20
+                    end = time.monotonic() + 60
                     while not is_healthy():
                         self.assertLess(time.monotonic(), end)
                     children = pathlib.Path("/proc/%d/task/%d/children" % (running.pid, running.pid)).read_text().split()

@@ -40,6 +40,7 @@ FOREIGN_GUTI = bytes.fromhex("f602f83900010212345678")  # of another network
 OTHER, NOBODYS = "001010000000008", "001010000000009"  # IMSIs without a `sub` line
 TURNED = 40  # bits of a message
 MOST_BESIDE_READING = 24  # times what it takes to read the lines of a run, to tell it
+MOST_TRIES = 9  # at a time that other processes may have lengthened
 SCRIPTS = {**{path: path.with_suffix(".trace") for path in (tools.TOP / "examples").glob("*.script")},
            **{path: path.with_suffix(".expect") for path in (tools.TOP / "tests" / "scripts").glob("*.script")}}
 
@@ -288,12 +289,20 @@ class Speed(unittest.TestCase):
         """They take some four times the time, and not sixteen times."""
         for make, count in ((attached_and_released, 150), (resets_of_nobody, 1500)):
             with self.subTest(trace=make.__name__):
-                times = []
+                runs = []
                 for lines in (count, 4 * count):
                     made = make(lines)
-                    trace, answers = RUNS.read_trace(made.text().encode()), RUNS.read_answers(made.answer_text().encode())
-                    times.append(min(self.seconds(trace, answers) for _ in range(3)))
-                self.assertLess(times[1], 7 * times[0])
+                    runs.append((RUNS.read_trace(made.text().encode()), RUNS.read_answers(made.answer_text().encode())))
+                self.least(lambda: [self.seconds(*run) for run in runs], lambda one, four: four < 7 * one)
+
+    def least(self, tried, holds):
+        """The least of each of two times, over as many tries as it takes that they hold: other processes only ever lengthen one."""
+        least = tried()
+        for _ in range(MOST_TRIES):
+            least = [min(times) for times in zip(least, tried())]
+            if holds(*least):
+                return
+        self.fail("%.3f s and %.3f s in the quickest of %d tries" % (*least, MOST_TRIES + 1))
 
     def seconds(self, trace, answers):
         """How long a run is told."""
@@ -302,7 +311,6 @@ class Speed(unittest.TestCase):
         self.assertIsNotNone(run)
         "".join(EXPLAIN.text_of(EXPLAIN.entries_of(run.told), run.world, brief=True))
         return time.process_time() - begun
-
 
     def test_work(self):
         """What is worked out anew for a message isn't for each one: of four times the phones hardly more messages are read from the
@@ -324,13 +332,14 @@ class Speed(unittest.TestCase):
         """A run is told in a few times what it takes to read its lines."""
         made = attached_and_released(600)
         text, answer_text = made.text().encode(), made.answer_text().encode()
-        told, read = [], []
-        for _ in range(3):
+
+        def tried():
             begun = time.process_time()
             trace, answers = RUNS.read_trace(text), RUNS.read_answers(answer_text)
-            read.append(time.process_time() - begun)
-            told.append(self.seconds(trace, answers))
-        self.assertLess(min(told), MOST_BESIDE_READING * min(read))
+            read = time.process_time() - begun
+            return read, self.seconds(trace, answers)
+
+        self.least(tried, lambda read, told: told < MOST_BESIDE_READING * read)
 
 
 class Macs(unittest.TestCase):

@@ -43,7 +43,9 @@ def is_running(process):
         return False
 
 
-class Proving(unittest.TestCase):
+class Clone(unittest.TestCase):
+    """A clone with crates of a line each, and the toolchain that stands in."""
+
     def setUp(self):
         self.room = pathlib.Path(self.enterContext(tempfile.TemporaryDirectory()))
         self.top = self.room / "clone"
@@ -76,6 +78,8 @@ class Proving(unittest.TestCase):
                               text=True, timeout=60, check=False)
         return done.returncode, done.stdout, done.stderr
 
+
+class Proving(Clone):
     def proved(self, *words):
         """A run of `--prove` that comes to its end; what was asked of the toolchain."""
         (self.room / "calls").write_text("")

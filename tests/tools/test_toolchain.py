@@ -139,6 +139,42 @@ class Answers(unittest.TestCase):
         self.assertEqual(crate.compile_by("rattle", "words", "made"), 3)
         self.assertEqual(crate.out.getvalue(), "llvm: words to made\nrattle: words to made\n")
 
+    def test_checked(self):
+        """What the check of a static library made stays where it was proved, and counts for the text that it was made of alone."""
+        class Crate:
+            text, status = "a text", 0
+
+            def __init__(self, folder, is_static):
+                self.folder, self.is_static, self.proved = folder, is_static, []
+
+            def stamp(self):
+                return "of %s" % self.text
+
+            def prove(self, *commands):
+                self.proved += commands
+                if "-o" in commands[0]:
+                    pathlib.Path(commands[0][-1]).mkdir()
+                    pathlib.Path(commands[0][-1], "made").write_text(self.text)
+                return self.status
+
+            def ci(self, flags, tests):
+                return self.prove(["check", *flags])
+
+        Crate.ci = toolchain.kept_checked(Crate.ci)
+        with tempfile.TemporaryDirectory() as room:
+            crate, other = Crate(room, True), Crate(room, False)
+            for one, tests in ((other, False), (crate, True)):
+                self.assertEqual((one.ci(["--jobs"], tests), one.proved[-1], toolchain.checked(one)), (0, ["check", "--jobs"], None))
+            self.assertEqual(crate.ci(["--jobs"], False), 0)
+            made = toolchain.checked(crate)
+            self.assertEqual((crate.proved[-1], (made / "made").read_text()), (["check", "--jobs", "-o", str(made)], "a text"))
+            crate.text = "another text"
+            self.assertIsNone(toolchain.checked(crate))
+            crate.status = 1
+            self.assertEqual((crate.ci(["--jobs"], False), toolchain.checked(crate)), (1, None))
+            crate.status = 0
+            self.assertEqual((crate.ci(["--jobs"], False), (toolchain.checked(crate) / "made").read_text()), (0, "another text"))
+
     def test_another_form(self):
         """What a toolchain has in another form stays as it is."""
         class Crate:

@@ -1,12 +1,13 @@
 #!/usr/bin/env python3
 """Proves the crates below the library for C and builds the library: `./mme --library [PROCESSOR]`.
 
-    library.py [PROCESSOR]      what `./mme --library` does: after the gate here, the library is built over the crates' libraries
-                                that it left; where this machine keeps what `rt ci` proved of this text, whole, over those; else
-                                each crate is proved in turn, with a line for each
+    library.py [PROCESSOR]      what `./mme --library` does: after the gate here, the library is linked of the archive of `mme_c`
+                                that it proved and compiled, or, for another processor or where the gate's tests didn't pass,
+                                built over the crates' libraries that it left; where this machine keeps what `rt ci` proved of
+                                this text, whole, over those; else each crate is proved in turn, with a line for each
     library.py --built FOLDER [PROCESSOR]
-                                builds it in a folder over the libraries that stand built here, as `rt ci` leaves them: the crate
-                                `mme_c` is checked and compiled, the crates below it are not
+                                builds it in a folder of what the gate compiled, or over the libraries that stand built here, as
+                                `rt ci` leaves them: the crate `mme_c` is checked and compiled, the crates below it are not
 
 The library is the archive libsoizkadur.a and the shared object libsoizkadur.so.1, each whole but for the C library, with
 soizkadur.h and soizkadur.pc. Only the functions of soizkadur.h are visible in them. Both say which processor they need, so that the
@@ -59,11 +60,18 @@ Cflags: -I${includedir}
 # --- The archive, compiled ---
 
 
-def compiled(rt, crate, archive, processor):
-    """Checks `mme_c` and compiles it to an archive, over the libraries below it."""
-    ran([*rt.rtlib.guarded(), rt.rtlib.RATTLE, "build", *kept.words_of(crate), *prove.compiled_for(processor), "--toolchain",
-         "%s/toolchain" % rt.KIT, "--backend", "llvm", "-o", archive], "%s isn't proved, or doesn't compile" % CRATE, crate.folder,
-        **toolchain.for_provers())
+def compiled(rt, crate, archive, processor, checked=None):
+    """Compiles `mme_c` to an archive, over the libraries below it: of what its check made, where that is given, else it is checked."""
+    words = [*kept.words_of(crate), *prove.compiled_for(processor), "--toolchain", "%s/toolchain" % rt.KIT, "--backend", "llvm"]
+    if checked:
+        words = [*without(words, "--logic-built", "--jobs"), "--crate-checked", checked]
+    ran([*rt.rtlib.guarded(), rt.rtlib.RATTLE, "build", *words, "-o", archive], "%s isn't proved, or doesn't compile" % CRATE,
+        crate.folder, **toolchain.for_provers())
+
+
+def without(words, *flags):
+    """The words without these flags and what follows each."""
+    return [word for at, word in enumerate(words) if word not in flags and (at == 0 or words[at - 1] not in flags)]
 
 
 def compile_over_built(archive, processor):
@@ -77,7 +85,8 @@ def compile_over_built(archive, processor):
     missing = [one.name for one in crate.below() if not os.path.isdir(one.rlib)]
     if missing:
         raise Failed("the libraries below %s aren't built: %s" % (CRATE, record.listed(missing)))
-    compiled(rt, crate, archive, processor)
+    # (what was checked is for the usual processor)
+    compiled(rt, crate, archive, processor, None if processor else toolchain.checked(crate))
 
 
 def compile_over_kept(archive, processor):
@@ -93,6 +102,25 @@ def compile_over_kept(archive, processor):
             return False
         compiled(rt, crate, archive, processor)
     return True
+
+
+def compile_for_gate():
+    """Compiles `mme_c` over the libraries that stand built here, to where the gate leaves it, and notes of what; returns the archive.
+    It counts for nothing until the gate has passed and its record is written (record.py)."""
+    archive = record.TOP / record.COMPILED
+    shutil.rmtree(archive.parent, ignore_errors=True)
+    archive.parent.mkdir(parents=True)
+    told = record.made_of()
+    compile_over_built(archive, None)
+    record.note_compiled(told)
+    return archive
+
+
+def left_by_gate(processor):
+    """The record of the archive that the gate compiled of `mme_c`, where it is of this text, by this toolchain and for this processor;
+    else None."""
+    told = record.of_this_text(record.TOP / record.COMPILED, CRATE)
+    return told if told and told["processor"] == (processor or record.DEFAULT_PROCESSOR) else None
 
 
 # --- The library, linked ---
@@ -176,7 +204,10 @@ def link(compiled, folder, processor=None):
 
 
 def build_over_built(folder, processor=None):
-    """The library in a folder, over the crates' libraries that stand built here, as after `rt ci`; returns the folder."""
+    """The library in a folder, of what the gate compiled, or over the crates' libraries that stand built here, as after `rt ci`;
+    returns the folder."""
+    if left_by_gate(processor):
+        return link(record.TOP / record.COMPILED, folder, processor)
     with tempfile.TemporaryDirectory() as room:
         archive = pathlib.Path(room, "lib%s.a" % CRATE)
         compile_over_built(archive, processor)
@@ -186,12 +217,9 @@ def build_over_built(folder, processor=None):
 def fresh(folder=FOLDER):
     """The folder, that of `./mme --library` where none is given, if the library in it is of this text and this toolchain by its
     record, else None."""
-    told = record.read(folder / ARCHIVE)
-    if told is None or told["program"] != record.digest_of(folder / ARCHIVE) or told["crates"] != record.digests_of_crates(CRATE):
+    if record.of_this_text(folder / ARCHIVE, CRATE) is None:
         return None
-    if list(record.toolchain_changed(told["toolchain"])) or HEADER.read_bytes() != (folder / HEADER.name).read_bytes():
-        return None
-    return folder
+    return folder if HEADER.read_bytes() == (folder / HEADER.name).read_bytes() else None
 
 
 # --- ./mme --library ---
@@ -208,6 +236,17 @@ def prove_each(begun, processor):
         except children.Stopped as stopped:
             raise Failed("stopped while proving %s; what was proved before it is kept" % what, stopped.status) from None
     return record.TOP / "crates" / CRATE / "out" / ("lib%s.a" % CRATE)
+
+
+def take_from_gate(processor):
+    """Links the library of what the gate compiled here, where that is of this text; whether it is."""
+    told = left_by_gate(processor)
+    if told is None:
+        return False
+    say("the gate passed on this text here: %d crates are proved, and %s is compiled" % (len(told["crates"]), CRATE))
+    link(record.TOP / record.COMPILED, FOLDER, processor)
+    record.write(FOLDER / ARCHIVE, told["crates"], told["toolchain"], told["processor"], told["proved"])
+    return True
 
 
 def prove_and_build(begun, processor):
@@ -236,8 +275,12 @@ def library(begun, processor):
     if record.kit() is None:
         raise Failed("no toolchain on the path: --library needs `rt`")
     children.catch_signals()
-    prove_and_build(begun, processor)
-    say("proved and built in %d s: %s and %s in %s" % (time.monotonic() - begun, ARCHIVE, SHARED, FOLDER))
+    if take_from_gate(processor):
+        done = "linked"
+    else:
+        prove_and_build(begun, processor)
+        done = "proved and built"
+    say("%s in %d s: %s and %s in %s" % (done, time.monotonic() - begun, ARCHIVE, SHARED, FOLDER))
 
 
 def main(given):

@@ -4,10 +4,13 @@
     record.py now             prints the digests of text and toolchain, to be given back once they are proved
     record.py since PROGRAM   writes the record of a program that was made by then, and of the crates' libraries that stand built
                               for the library for C; standard input has the digests of before
+    record.py passed          writes the record of what the gate compiled of the library for C; standard input has the same digests
 
 The record (PROGRAM.proved, JSON) has the SHA-256 of the program, of each crate's text and of the toolchain. It is written where the
 text was the same before the proofs and after the build, so whoever finds all of them unchanged has the program that was proved.
-So it is of the built libraries, whose record (BUILT) has a digest of each: the library for C can be built over them.
+So it is of the built libraries, whose record (BUILT) has a digest of each: the library for C can be built over them. What the gate
+compiled of that one's own crate (COMPILED) gets its record once the whole gate has passed, and only where it was compiled of the
+text that the gate began with, over the libraries that it proved.
 """
 import contextlib
 import hashlib
@@ -22,6 +25,8 @@ TOP = pathlib.Path(__file__).resolve().parents[2]
 NAME, LIBRARY = "mme", "mme_c"
 END = ".proved"
 BUILT = pathlib.Path("crates") / LIBRARY / "out" / ("built" + END)
+COMPILED = pathlib.Path("crates") / LIBRARY / "out" / "gate" / ("lib%s.a" % LIBRARY)
+MADE_OF = ".made_of"  # the end of the name of the file that says what COMPILED was compiled of
 PARTS = ("src", "specs", "proofs", "c")  # of a crate, which its proof reads
 # The toolchain's folders and files that a proof and a build read; of each built library the file with the digests of its others.
 TOOLCHAIN = ("KIT-ID", "WHAT", "bin", "toolchain", "c", "logic_built", "rattle/logic", "rattle/antt", "rlibs/*/format")
@@ -172,13 +177,37 @@ def is_built(top=TOP):
     return False
 
 
+# --- What the gate compiled ---
+
+
+def made_of(top=TOP):
+    """The digests of what the library for C's own crate is compiled of: the text, and the libraries below as they stand built."""
+    return {"crates": digests_of_crates(LIBRARY, top), "built": digests_of_built(crates_of(LIBRARY, top)[:-1], top)}
+
+
+def note_compiled(told, top=TOP):
+    """Notes of what COMPILED was compiled; that isn't its record."""
+    path = top / COMPILED
+    path.with_name(path.name + MADE_OF).write_text(json.dumps({**told, "program": digest_of(path)}) + "\n", encoding="utf-8")
+
+
+def write_compiled(crates, tools, top=TOP):
+    """Writes the record of COMPILED, where it was compiled of these crates' digests over the libraries that were proved, and all of
+    that is as it was."""
+    path = top / COMPILED
+    with contextlib.suppress(OSError, ValueError):
+        noted = json.loads(path.with_name(path.name + MADE_OF).read_text(encoding="utf-8"))
+        if noted == {**made_of(top), "program": digest_of(path)} and noted["crates"] == crates and is_built(top):
+            write(path, crates, tools)
+
+
 # --- Records ---
 
 
-def write(program, crates, tools, processor=DEFAULT_PROCESSOR):
-    """Writes the record of a program that was made of these crates' digests by this toolchain."""
-    told = {"program": digest_of(program), "processor": processor, "proved": time.strftime("%Y-%m-%dT%H:%M:%SZ", time.gmtime()),
-            "toolchain": tools, "crates": crates}
+def write(program, crates, tools, processor=DEFAULT_PROCESSOR, proved=None):
+    """Writes the record of a program that was made of these crates' digests by this toolchain, and proved by now or at a time."""
+    told = {"program": digest_of(program), "processor": processor,
+            "proved": proved or time.strftime("%Y-%m-%dT%H:%M:%SZ", time.gmtime()), "toolchain": tools, "crates": crates}
     path = path_of(program)
     room = path.with_name(path.name + ".new")
     room.write_text(json.dumps(told, indent=1) + "\n", encoding="utf-8")
@@ -192,6 +221,15 @@ def read(program):
         return told if {"program", "processor", "proved", "toolchain", "crates"} <= told.keys() else None
     except (OSError, ValueError, AttributeError):
         return None
+
+
+def of_this_text(program, name, top=TOP):
+    """The record of a file that was made of a crate, where the file, the text and the toolchain are those that it says; else None."""
+    told = read(program)
+    with contextlib.suppress(OSError, KeyError, TypeError):
+        is_same = told["program"] == digest_of(program) and told["crates"] == digests_of_crates(name, top)
+        return told if is_same and not list(toolchain_changed(told["toolchain"])) else None
+    return None
 
 
 def listed(names):
@@ -237,10 +275,13 @@ def main(words):
     if words == ["now"]:
         json.dump(now(), sys.stdout)
         return 0
-    if words[:1] != ["since"] or len(words) != 2:
+    if words != ["passed"] and (words[:1] != ["since"] or len(words) != 2):
         print(__doc__.strip(), file=sys.stderr)
         return 2
     before = json.load(sys.stdin)
+    if words == ["passed"]:
+        write_compiled(before["library"], before["toolchain"])
+        return 0
     if (before["crates"], before["library"]) != (digests_of_crates(), digests_of_crates(LIBRARY)):
         print("record.py: the crates changed while they were proved: no record is written", file=sys.stderr)
         return 1

@@ -7,7 +7,9 @@
 crate's text (`Crate.stamp`), which some toolchains ask twice for each crate and for which they read the crates below once for each
 way. Here the toolchain's own code answers each question once: `below` of a crate once, since what a crate uses is read when it is
 made and doesn't change, and within one sum the text of each crate once. `rt ci` has a program compiled by LLVM and then by the
-toolchain's own compiler; here it is compiled by both at once. Every answer is the one that `rt` gives.
+toolchain's own compiler; here it is compiled by both at once. Of a static library `rt ci` keeps nothing; here what its check made
+stays beside a sum of the crate's text, so that the library can be compiled of it without being proved again. Every answer is the one
+that `rt` gives.
 
 What proves is started with huge_pages.c, where there is a C compiler for it and the system gives huge pages to those that ask: the
 prover is a seventh quicker so, and does nothing else. It keeps the memory that it has freed until it ends, and its own files in
@@ -102,9 +104,42 @@ def compiled_at_once(compile_by):
     return compiled
 
 
+def checked_of(crate):
+    """The folder where what a static library's check made stays, and the file with the sum of what it was made of."""
+    folder = pathlib.Path(crate.folder, "out")
+    return folder / "checked", folder / "checked.stamp"
+
+
+def kept_checked(ci):
+    """`Crate.ci`, by which a static library is checked: what the check made is kept where the crate is proved."""
+    @functools.wraps(ci)
+    def proved(crate, flags, tests):
+        if tests or not crate.is_static:
+            return ci(crate, flags, tests)
+        made, stamp = checked_of(crate)
+        made.parent.mkdir(exist_ok=True)
+        stamp.unlink(missing_ok=True)
+        shutil.rmtree(made, ignore_errors=True)
+        own, before = copy.copy(crate), crate.stamp()
+        own.prove = lambda *commands: crate.prove(*[[*words, "-o", str(made)] if words[0] == "check" else words for words in commands])
+        status = ci(own, flags, tests)
+        if not status and crate.stamp() == before:
+            stamp.write_text(before, encoding="utf-8")
+        return status
+
+    return proved
+
+
+def checked(crate):
+    """What the check of a static library made, where that was proved of the text that stands; else None."""
+    made, stamp = checked_of(crate)
+    is_of_text = made.is_dir() and stamp.is_file() and stamp.read_text(encoding="utf-8") == crate.stamp()
+    return made if is_of_text else None
+
+
 # The methods that are quicker here, with their parameters, and what takes their place.
 QUICKER = (("below", ["self"], found_once), ("stamp", ["self"], summed_once),
-           ("compile_by", ["self", "backend", "words", "to"], compiled_at_once))
+           ("compile_by", ["self", "backend", "words", "to"], compiled_at_once), ("ci", ["self", "flags", "tests"], kept_checked))
 
 
 def make_quicker(crate):

@@ -1,11 +1,13 @@
 //! One subscriber.
 
-ghost use Rattle.std.specs.Prelude.{◌≡◌, IfOk, OnErr, OnOk, is_some, length};
+ghost use Rattle.std.specs.Prelude.{◌≡◌, ◌≢◌, ◌↔◌, Err, IfErr, IfOk, OnErr, OnOk, is_some, length, true};
 ghost use Rattle.emm_state.specs.Does.{Does};
 ghost use Rattle.mme_types.specs.Events.{Message, item_of, message_lists};
 ghost use Rattle.identity_slots.specs.Spending.{HasFrom};
+ghost use Rattle.identity_slots.specs.declared.provision.ProvisionFault.TheVariants.{Full, NoMemory};
 ghost use Rattle.emm_state.specs.Taking.{vectors_spent, IsOnward};
 ghost use Rattle.emm_machine.specs.Forgetting.{goes_on, left_for};
+ghost use Rattle.emm_machine.specs.Given.{is_stocked, with_given};
 ghost use Rattle.emm_machine.specs.Steps.{row, solo_step, spent};
 ghost use Rattle.emm_machine.specs.Still.{still};
 ghost use Rattle.emm_machine.specs.Ticks.{AreAbove, countdowns, ticks_after};
@@ -18,7 +20,7 @@ use emm_network::{cancelled, connections_gone, data_waits, displaced, station_go
 use emm_state::{Asked, Context, Counter, Draft, Phase, Repeat, Setting, Solo, StepStop, or_stop};
 use emm_uplink::{claim, initial};
 use esm_machine::{Bearer, BearerState};
-use identity_slots::{KeptVectors, Profile, Slot, Vectors};
+use identity_slots::{KeptVectors, Profile, ProvisionFault, Slot, Vector, Vectors};
 use mme_types::{
     Answers, Connection, EnbWorld, SharedNetwork, SoloEvent, StationNumber, UeMessage,
 };
@@ -193,7 +195,7 @@ fn spent(alloc: Global, solo: &Solo) -> Result<Box<Draft>, AllocError>
     Ok(draft)
 }
 
-/// A subscriber; a contract sees what never changes of it, and the state of its machine.
+/// A subscriber; a contract sees what no step changes of it, and the state of its machine.
 #[derive(Drop)]
 pub struct Subscriber {
     setting: Setting,
@@ -303,6 +305,21 @@ impl Subscriber {
         let mut left = self.settle(draft);
         left.solo.forget();
         Ok(sent)
+    }
+
+    /// One vector more, after all others. Full where 64 aren't spent or 2^62 were given, NoMemory where room was refused, in this
+    /// order; then nothing changed, and the secrets of the vector are overwritten.
+    #[tactic(auto, using(crate::proofs::Spending::are_spent_given, crate::proofs::Spending::is_full))]
+    pub fn give(&mut self, alloc: Global, vector: Vector) -> Result<(), ProvisionFault>
+        ensures full { (result ≡ Err Full) ↔ (is_stocked self.old ≡ true) }
+        ensures fault { IfErr result (λ fault. fault ≢ NoMemory → fault ≡ Full) }
+        ensures given { OnOk result (self.new ≡ with_given vector self.old) }
+        ensures err { OnErr result (self.new ≡ self.old) }
+    {
+        self.vectors.give(alloc, vector)?;
+        self.vectors.spend_before(vectors_spent(&self.state.solo));
+        self.setting.vectors = self.vectors.given();
+        Ok(())
     }
 
     /// As many ticks, each of which ends no countdown and so sends nothing; takes no memory.

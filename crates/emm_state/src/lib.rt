@@ -1,4 +1,4 @@
-//! What the machine of one subscriber keeps ([`Solo`]), what never changes of a subscriber ([`Setting`]), and the actions that
+//! What the machine of one subscriber keeps ([`Solo`]), what no step changes of a subscriber ([`Setting`]), and the actions that
 //! the rows of its machine are made of, each a method of a step under way ([`Draft`]).
 #![tactic(auto)]
 

@@ -1,10 +1,10 @@
-//! What never changes of a subscriber.
+//! What no step changes of a subscriber.
 
 use identity_slots::{GivenVectors, Profile, Slot};
 use mme_types::SharedNetwork;
 use std::alloc::AllocError;
 
-/// What never changes of a subscriber: its network, its slot, its profile and its vectors.
+/// What no step changes of a subscriber: its network, its slot, its profile and its vectors.
 #[derive(Drop)]
 pub struct Setting {
     pub network: SharedNetwork,

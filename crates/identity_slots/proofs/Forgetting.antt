@@ -1,5 +1,5 @@
 -- Vectors, the first of which have no secrets any more.
-use Rattle.std.proofs.Common.{◌≡◌, ℕ, zero, suc, ◌+◌, ◌<◌, ◌≤◌, List, [], ◌∷◌, length, get_or, refl, sym, ◌∙◌, ap, subst, arith}
+use Rattle.std.proofs.Common.{◌≡◌, ℕ, zero, suc, ◌+◌, ◌<◌, ◌≤◌, List, [], ◌∷◌, length, get_or, refl, ◌∙◌, ap, subst, arith}
 use Rattle.std.specs.Prelude.{min, max, slice_get, slice_set}
 use Rattle.identity_slots.specs.declared.profile.Vector.{Vector}
 use Rattle.identity_slots.specs.Forgetting.{first_forgotten, forgotten}
@@ -17,10 +17,10 @@ first_get (suc n) k [] le = refl
 first_get (suc n) zero (v ∷ vs) le = absurd (omega arith)
 first_get (suc n) (suc k) (v ∷ vs) le = first_get n k vs (omega arith)
 
-suc_is : (n : ℕ) → suc n ≡ n + 1
+pub suc_is : (n : ℕ) → suc n ≡ n + 1
 suc_is n = omega arith
 
-one_next : (n : ℕ) (vs : List Vector) (v d : Vector) → n < length vs → v ≡ get_or (first_forgotten n vs) n d
+pub one_next : (n : ℕ) (vs : List Vector) (v d : Vector) → n < length vs → v ≡ get_or (first_forgotten n vs) n d
     → slice_set (first_forgotten n vs) n (forgotten v) ≡ first_forgotten (suc n) vs
 one_next zero [] v d lt is = absurd (omega arith)
 one_next zero (w ∷ vs) v d lt is = ap (λ u. forgotten u ∷ vs) is
@@ -36,15 +36,6 @@ first_next n vs ws v d is lt next =
     ∙ ap (λ us. slice_set us n (forgotten (get_or us n d))) is
     ∙ one_next n vs (get_or (first_forgotten n vs) n d) d long refl
     ∙ ap (λ m. first_forgotten m vs) (suc_is n)
-
-end_there : (spent place count end : ℕ) → spent < end → end ≡ min place count → spent < count
-end_there spent place count end lt ends = omega arith
-
--- there is one more to be spent
-pub next_there : (place count end spent : ℕ) (given items : List Vector) → items ≡ first_forgotten spent given → spent < end
-    → end ≡ min place count → count ≡ length given → spent < length items
-next_there place count end spent given items is lt ends all =
-    subst (λ m. spent < m) (all ∙ sym (ap length is ∙ first_length spent given)) (end_there spent place count end lt ends)
 
 most_is : (m n end : ℕ) → m ≤ n → n ≤ max m end → end ≤ n → n ≡ max m end
 most_is m n end more most past = omega arith

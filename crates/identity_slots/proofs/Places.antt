@@ -1,4 +1,4 @@
--- What one more profile makes of the look-ups.
+-- What one more profile makes of the look-ups, and one less.
 use Rattle.std.proofs.Common.{◌≡◌, ℕ, ◌+◌, ◌<◌, ◌≤◌, List, [], ◌∷◌, ◌++◌, length, refl, sym, ◌∙◌, ap, subst, arith}
 use Rattle.std.specs.Prelude.{nat_le, nat_eq, ◌==◌, Option, Some, None, Bool, true, false, cond, if◌then◌else◌, is_some, IfSome, IfNone, Result, Ok, Err, IsOk, OnOk}
 use Rattle.std.proofs.lemmas.Bool.Decides.{nat_tests}
@@ -100,6 +100,38 @@ module _ (key : Profile → ℕ) where
       first_place : (k : ℕ) (p : Profile) (ps : List Profile) → (if key p == k then Some (0 + length ps) else place_from key k 0 ps) ≡ cond (nat_eq (key p) k) (Some (length ps)) (place_from key k 0 ps)
       first_place k p ps = ap (λ n. cond (nat_eq (key p) k) (Some n) (place_from key k 0 ps)) (omega arith)
 
+  -- ---- the last profile less
+
+  last_none : (k n : ℕ) (p : Profile) (ps : List Profile) → place_from key k n (ps ++ p ∷ []) ≡ None → place_from key k n ps ≡ None
+  last_none k n p [] h = refl
+  last_none k n p (q ∷ qs) h = let ih = last_none k (n + 1) p qs in grind (arith, nat_tests)
+
+  last_apart : (k n : ℕ) (p : Profile) (ps : List Profile) → place_from key k n (ps ++ p ∷ []) ≡ None → (key p == k) ≡ false
+  last_apart k n p [] h = grind (arith, nat_tests)
+  last_apart k n p (q ∷ qs) h = let ih = last_apart k (n + 1) p qs in grind (arith, nat_tests)
+
+  pub distinct_front : (p : Profile) (ps : List Profile) → AreDistinct key (ps ++ p ∷ []) → AreDistinct key ps
+  distinct_front p [] d = tt
+  distinct_front p (q ∷ qs) d = (last_none (key q) 0 p qs d.0, distinct_front p qs d.1)
+
+  last_away : (n : ℕ) (p : Profile) (ps : List Profile) → AreDistinct key (ps ++ p ∷ []) → place_from key (key p) n ps ≡ None
+  last_away n p [] d = refl
+  last_away n p (q ∷ qs) d =
+      let rest = last_away (n + 1) p qs d.1 in
+      let apart = last_apart (key q) 0 p qs d.0 in
+      grind (arith, nat_tests)
+
+  without_last : (k : ℕ) (p : Profile) (ps : List Profile) → place_from key (key p) 0 ps ≡ None
+      → cond (nat_eq (key p) k) None (if key p == k then Some (0 + length ps) else place_from key k 0 ps) ≡ place_from key k 0 ps
+  without_last k p ps h = grind (arith, nat_tests)
+
+  pub index_front : {S : Type 0} (p : Profile) (ps : List Profile) (old new : HashMap ℕ ℕ S) → IsSlotIndex key old (ps ++ p ∷ [])
+      → AreDistinct key (ps ++ p ∷ []) → ((k : ℕ) → get nat_eq new k ≡ cond (nat_eq (key p) k) None (get nat_eq old k))
+      → IsSlotIndex key new ps
+  index_front p ps old new h d u k =
+      let away = last_away 0 p ps d in
+      u k ∙ ap (cond (nat_eq (key p) k) None) (h k ∙ place_push k 0 p ps away) ∙ without_last k p ps away
+
 is_none : {X : Type 0} (o : Option X) → is_some o ≡ false → o ≡ None
 is_none None h = refl
 is_none (Some x) h = absurd (cc)
@@ -134,3 +166,15 @@ longer x xs ys e = ap length e ∙ length-append xs (x ∷ [])
 pub not_err : {X E : Type 0} (r : Result X E) → is_err r ≡ false → IsOk r
 not_err (Ok x) h = refl
 not_err (Err e) h = absurd (cc)
+
+-- ---- the last profile less
+
+pub distinct_popped : (key : Profile → ℕ) (p : Profile) (ps qs : List Profile) → ps ≡ qs ++ p ∷ [] → AreDistinct key ps → AreDistinct key qs
+distinct_popped key p ps qs g d = distinct_front key p qs (subst (AreDistinct key) g d)
+
+pub index_popped : {S : Type 0} (key : Profile → ℕ) (n : ℕ) (p : Profile) (ps qs : List Profile) (old new : HashMap ℕ ℕ S) → n ≡ key p
+    → ps ≡ qs ++ p ∷ [] → IsSlotIndex key old ps → AreDistinct key ps
+    → ((k : ℕ) → get nat_eq new k ≡ cond (nat_eq n k) None (get nat_eq old k)) → IsSlotIndex key new qs
+index_popped key n p ps qs old new e g h d u =
+    index_front key p qs old new (subst (λ xs. IsSlotIndex key old xs) g h) (subst (AreDistinct key) g d)
+    (λ k. subst (λ m. get nat_eq new k ≡ cond (nat_eq m k) None (get nat_eq old k)) e (u k))

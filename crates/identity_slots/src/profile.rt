@@ -7,6 +7,7 @@ use arrayvec::ArrayVec;
 use nas_elements::Imsi;
 use std::alloc::AllocError;
 use std::marker::Model;
+use std::mem;
 
 /// What is provisioned of a subscriber.
 #[derive(Clone, Copy)]
@@ -129,6 +130,19 @@ impl Vector {
     {
         self.xres = Xres::blank();
         self.kasme = GivenKasme::new([0; 32]);
+    }
+
+    /// The vector, out of where it stands: there zeros are left in place of its secrets.
+    pub(crate) fn take(&mut self) -> Vector
+        ensures vector { result ≡ self.old }
+        ensures left { self.new ≡ forgotten self.old }
+    {
+        Vector {
+            rand: self.rand,
+            autn: self.autn,
+            xres: mem::replace(&mut self.xres, Xres::blank()),
+            kasme: mem::replace(&mut self.kasme, GivenKasme::new([0; 32])),
+        }
     }
 }
 

@@ -1,11 +1,12 @@
 //! The subscribers by slot.
 
-ghost use Rattle.std.specs.Prelude.{◌≡◌, ◌≢◌, ℕ, ◌+◌, ◌<◌, ◌≤◌, ◌↔◌, [], ◌++◌, ◌∷◌, length, slice_get, slice_set, nat_eq, vec_len, IfOk, IfErr, IfSome, IfNone, OnOk, OnErr, OnSome, IsOk, Option, Some, None, Err};
+ghost use Rattle.std.specs.Prelude.{◌≡◌, ◌≢◌, ℕ, ◌+◌, ◌-◌, ◌<◌, ◌≤◌, ◌↔◌, [], ◌++◌, ◌∷◌, length, slice_get, slice_set, nat_eq, vec_len, IfOk, IfErr, IfSome, IfNone, OnOk, OnErr, OnSome, IsOk, Option, Some, None, Err};
 ghost use Rattle.std.specs.Vec.{vec_capacity};
 ghost use Rattle.std.specs.HashMap.{get, spare};
 ghost use Rattle.std.specs.Int.{from_be_bytes, w32, w64};
 ghost use Rattle.nas_elements.specs.Digits.{imsi_octets};
 ghost use Rattle.identity_slots.specs.Ids.{slots};
+ghost use Rattle.identity_slots.specs.declared.profile.Profile.{Profile};
 ghost use Rattle.identity_slots.specs.declared.provision.ProvisionFault.TheVariants.{Full, NoMemory};
 ghost use Rattle.identity_slots.specs.Provisioned.{Provisioned, imsi_number, address_number, slot_of_imsi, slot_of_address, slot_of_id, add_fault, with_profile, with_vector, without_vectors, vectors_at, AreDistinct, imsi_key, address_key};
 
@@ -18,8 +19,8 @@ use std::collections::HashMap;
 use std::marker::Model;
 use std::mem;
 
-/// How many vectors a subscriber has at most.
-const VECTORS: usize = 64;
+/// How many vectors that aren't spent a subscriber has at most.
+pub(crate) const VECTORS: usize = 64;
 
 /// Why a subscriber or a vector was not added, in the order of the checks.
 #[derive(Clone, Copy, PartialEq, Eq, Debug)]
@@ -198,6 +199,21 @@ impl Provision {
         let _ = self.by_imsi.insert(imsi, slot);
         let _ = self.by_address.insert(address, slot);
         Ok(slot)
+    }
+
+    /// The last subscriber, who has no vectors, is provisioned no longer: for who added one and was refused what else it needs. Takes
+    /// no memory.
+    pub fn take_back(&mut self)
+        requires last { 0 < length self.old.profiles }
+        requires none { vectors_at (length self.old.profiles - 1) self.old.vectors ≡ [] }
+        ensures { (p : Profile) (s : Provisioned) → self.old ≡ with_profile p s → self.new ≡ s }
+    {
+        let Some(profile) = self.profiles.pop() else {
+            return;
+        };
+        let _ = self.vectors.pop();
+        let _ = self.by_imsi.remove(&imsi_number(profile.imsi));
+        let _ = self.by_address.remove(&address_number(profile.address));
     }
 
     /// Gives a subscriber that is provisioned one more vector. Full at 64 vectors, then NoMemory where room was refused; then

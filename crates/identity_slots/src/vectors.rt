@@ -1,18 +1,28 @@
 //! The authentication vectors of a subscriber: as they are given, and as they are kept until they are spent.
 
-ghost use Rattle.std.specs.Prelude.{◌≡◌, ◌<◌, ◌≤◌, ◌^◌, ◌++◌, ◌∷◌, [], IfOk, IsSome, OnOk, OnErr, length, option_map, slice_get};
-ghost use Rattle.identity_slots.specs.Forgetting.{first_forgotten};
-ghost use Rattle.identity_slots.specs.Spending.{spent_before};
+ghost use Rattle.std.specs.Prelude.{◌≡◌, ◌≢◌, ◌↔◌, ◌+◌, ◌<◌, ◌≤◌, ◌^◌, ◌++◌, ◌∷◌, [], Err, IfErr, IfOk, IsSome, OnOk, OnErr, drop, length, option_map, slice_get, true, vec_len};
+ghost use Rattle.std.specs.Vec.{vec_capacity};
+ghost use Rattle.identity_slots.specs.Forgetting.{first_forgotten, forgotten};
+ghost use Rattle.identity_slots.specs.Spending.{IsStocked, spent_before};
+ghost use Rattle.identity_slots.specs.declared.provision.ProvisionFault.TheVariants.{Full, NoMemory};
 
 use crate::history::History;
 use crate::profile::Vector;
+use crate::provision::{ProvisionFault, VECTORS};
 use std::alloc::{AllocError, Global};
 use std::marker::Model;
 use std::mem;
 
+// How many vectors a subscriber is given in all, at most.
+const GIVEN: usize = 1 << 62;
+
+// How many are kept at most once one more was given: where there are so many, those that are spent go first.
+const KEPT: usize = 128;
+
 // The same vectors, where there is room for as many again and two more.
 fn roomier(alloc: Global, vectors: &[Vector]) -> Result<Vec<Vector>, AllocError>
-    ensures { IfOk result (λ v. v.items ≡ vectors.now) }
+    ensures items { IfOk result (λ v. v.items ≡ vectors.now) }
+    ensures room { IfOk result (λ v. vec_len v < vec_capacity v) }
 {
     let mut room = Vec::with_capacity(alloc, 2 * vectors.len() + 2)?;
     for vector in vectors {
@@ -29,6 +39,43 @@ fn forget_all(vectors: &mut Vec<Vector>)
     for vector in vectors.iter_mut() {
         vector.forget();
     }
+}
+
+// Those from a place on.
+fn rest_from(vectors: &[Vector], place: usize) -> &[Vector]
+    requires { place ≤ length vectors.now }
+    ensures { result.now ≡ drop place vectors.entry.now }
+{
+    &vectors[place..]
+}
+
+// Makes room for one more, of 128 at most. Where there is none, those that are spent go, the others move, and no secret stays where
+// it was. Answers how many went.
+fn make_room(alloc: Global, items: &mut Vec<Vector>, spent: usize) -> Result<usize, AllocError>
+    requires spent { spent ≤ vec_len items.old }
+    requires unspent { vec_len items.old < spent + 64 }
+    ensures items { IfOk result (λ gone. items.new.items ≡ drop gone items.old.items) }
+    ensures gone { IfOk result (λ gone. gone ≤ spent) }
+    ensures room { OnOk result (vec_len items.new < vec_capacity items.new) }
+    ensures few { OnOk result (vec_len items.new < 128) }
+    ensures err { OnErr result (items.new.items ≡ items.old.items) }
+{
+    if items.len() < items.capacity() && items.len() < KEPT {
+        return Ok(0);
+    }
+    let room = roomier(alloc, rest_from(items.as_slice(), spent))?;
+    let mut left = mem::replace(items, room);
+    forget_all(&mut left);
+    Ok(spent)
+}
+
+// Refuses a vector for a fault: its secrets are overwritten.
+fn refuse(vector: &mut Vector, fault: ProvisionFault) -> Result<(), ProvisionFault>
+    ensures fault { result ≡ Err fault }
+    ensures left { vector.new ≡ forgotten vector.old }
+{
+    vector.forget();
+    Err(fault)
 }
 
 // The vector at a place, from 0, if there is one.
@@ -113,6 +160,7 @@ impl Vectors {
         };
         KeptVectors {
             items: self.items,
+            base: 0,
             spent: 0,
             given,
         }
@@ -143,6 +191,15 @@ impl GivenVectors {
             items: self.items.again(),
         }
     }
+
+    // And this one.
+    fn and(&self, vector: &Vector) -> GivenVectors
+        ensures { result ≡ self.now ++ vector.now ∷ [] }
+    {
+        GivenVectors {
+            items: self.items.and(vector),
+        }
+    }
 }
 
 impl Clone for GivenVectors {
@@ -159,7 +216,9 @@ impl Clone for GivenVectors {
 /// A contract sees all as they were given, and how many are spent.
 #[derive(Drop)]
 pub struct KeptVectors {
+    // those from the place `base` on: the ones before it are spent, and aren't kept any more
     items: Vec<Vector>,
+    base: usize,
     // how many are spent: those before this place
     spent: usize,
     // all of them as they were given
@@ -167,15 +226,13 @@ pub struct KeptVectors {
 }
 
 impl Model for KeptVectors {
-    ghost use Rattle.std.specs.Prelude.{◌≡◌};
-    ghost use Rattle.identity_slots.specs.Forgetting.{first_forgotten};
-    ghost use Rattle.identity_slots.specs.Spending.{KeptView};
+    ghost use Rattle.identity_slots.specs.Spending.{IsWindow, KeptView};
 
     ghost Value = { KeptView };
 
     ghost view = { λ v. record { given = v.given; spent = v.spent } };
 
-    ghost invariant = { λ v. v.items.items ≡ first_forgotten v.spent v.given };
+    ghost invariant = { λ v. IsWindow v.base v.spent v.given v.items.items };
 }
 
 impl KeptVectors {
@@ -192,16 +249,58 @@ impl KeptVectors {
         ensures value { option_map (λ v. v.now) result ≡ slice_get self.entry.now.given place }
         ensures bound { IsSome result → place < 2 ^ 63 }
     {
-        vector_at(self.items.as_slice(), place)
+        vector_at(self.items.as_slice(), place - self.base)
+    }
+
+    // Whether no more are taken.
+    fn is_stocked(&self) -> bool
+        ensures { (result ≡ true) ↔ IsStocked self.now }
+    {
+        let given = self.base + self.items.len();
+        given - self.spent >= VECTORS || given >= GIVEN
+    }
+
+    /// One vector more, at the end. Full where 64 aren't spent or 2^62 were given, NoMemory where room was refused, in this order;
+    /// then nothing changed, and the secrets of the vector are overwritten. Where the others move, those that are spent go, and no
+    /// secret stays where it was.
+    pub fn give(&mut self, alloc: Global, mut vector: Vector) -> Result<(), ProvisionFault>
+        ensures full { (result ≡ Err Full) ↔ IsStocked self.old }
+        ensures fault { IfErr result (λ fault. fault ≢ NoMemory → fault ≡ Full) }
+        ensures given { OnOk result (self.new ≡ record self.old { given = self.old.given ++ vector ∷ [] }) }
+        ensures err { OnErr result (self.new ≡ self.old) }
+    {
+        self.push_from(alloc, &mut vector)
+    }
+
+    // One vector more, from where it stands: there its secrets are overwritten, also where it is refused. It is out of line, so that
+    // they are also where nobody looks at the vector again.
+    #[inline(never)]
+    fn push_from(&mut self, alloc: Global, vector: &mut Vector) -> Result<(), ProvisionFault>
+        ensures full { (result ≡ Err Full) ↔ IsStocked self.old }
+        ensures fault { IfErr result (λ fault. fault ≢ NoMemory → fault ≡ Full) }
+        ensures given { OnOk result (self.new ≡ record self.old { given = self.old.given ++ vector.old ∷ [] }) }
+        ensures err { OnErr result (self.new ≡ self.old) }
+        ensures left { vector.new ≡ forgotten vector.old }
+    {
+        if self.is_stocked() {
+            return refuse(vector, ProvisionFault::Full);
+        }
+        let Ok(gone) = make_room(alloc, &mut self.items, self.spent - self.base) else {
+            return refuse(vector, ProvisionFault::NoMemory);
+        };
+        self.base += gone;
+        self.given = self.given.and(vector);
+        self.items.push_reserved(vector.take());
+        Ok(())
     }
 
     /// The vectors before a place are spent too, and their secrets are overwritten. Takes no memory.
     pub fn spend_before(&mut self, place: usize)
         ensures { self.new ≡ spent_before place self.old }
     {
-        let end = place.min(self.items.len());
+        let end = place.min(self.base + self.items.len());
         while self.spent < end {
-            self.items[self.spent].forget();
+            self.items[self.spent - self.base].forget();
             self.spent += 1;
         }
     }
@@ -215,6 +314,7 @@ impl Clone for KeptVectors {
     fn clone(&self) -> Result<KeptVectors, AllocError> {
         Ok(KeptVectors {
             items: self.items.clone()?,
+            base: self.base,
             spent: self.spent,
             given: self.given.again(),
         })

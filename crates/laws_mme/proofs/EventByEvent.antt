@@ -24,7 +24,7 @@ refused_by : (o : Option StepFault) (w v : World) (outs : List Out) (fault : Ste
 refused_by None w v outs fault h = cc
 refused_by (Some x) w v outs fault h = refl
 
-refused_stays : (w : World) (e : Event) (fault : StepFault) → reply w e ≡ Err fault → world_after w e ≡ w
+pub refused_stays : (w : World) (e : Event) (fault : StepFault) → reply w e ≡ Err fault → world_after w e ≡ w
 refused_stays w e fault h = refused_by (event_fault w.sight e) w (world_moved w e) (outputs w e) fault h
 
 -- where the steps lead, and their answers

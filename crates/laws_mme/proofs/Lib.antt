@@ -28,3 +28,16 @@ mod KeyRows
 mod KeyRuns
 mod KeysOfMme
 mod KeysOfMessage
+pub mod LooksAtAttach
+pub mod LooksAtServing
+pub mod Looks
+pub mod GivenKept
+pub mod ActsKept
+pub mod ActOnce
+pub mod SlotAtAct
+mod ActsAlone
+pub mod GivenAfter
+pub mod GivenEarly
+mod GivenFresh
+mod ActByAct
+mod Calls

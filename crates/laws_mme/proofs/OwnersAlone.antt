@@ -97,7 +97,7 @@ station_is_told so w (event ∷ events) e r =
 
 -- ---- the order
 
-order_cons : (o : Option StepFault) (outs : List Out) (rs : List (Result (List Out) StepFault))
+pub order_cons : (o : Option StepFault) (outs : List Out) (rs : List (Result (List Out) StepFault))
     → (reply_of o outs ≡ Ok outs → AreInOrder outs) → AllInOrder rs → AllInOrder (reply_of o outs ∷ rs)
 order_cons None outs rs h k = (h refl, k)
 order_cons (Some fault) outs rs h k = k

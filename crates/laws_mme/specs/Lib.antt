@@ -27,3 +27,8 @@ pub mod Unseen
 pub mod Handed
 pub mod KeysOfMme
 pub mod KeysOfMessage
+pub mod Looks
+pub mod Acts
+pub mod ActsAlone
+pub mod Early
+pub mod ActByAct

@@ -10,25 +10,21 @@ use Rattle.mme_types.specs.declared.network.Network.{Network}
 use Rattle.mme_types.specs.declared.stations.StationState.{StationState}
 use Rattle.mme_types.specs.Stations.{no_stations}
 use Rattle.emm_machine.specs.SubscriberView.{SubscriberView}
-use Rattle.emm_machine.specs.Words.{fresh_solo}
 use Rattle.stranger_machine.specs.declared.table.Known.{Known}
 use Rattle.mme_owners.specs.Owners.{OwnersView}
 use Rattle.mme_core.specs.declared.config.Config.{Config}
-use Rattle.mme_core.specs.World.{World, fresh_subscribers, fresh_world, world_of}
-
-abbrev pub fresh_one : Network → ℕ → Profile → List Vector → SubscriberView
-fresh_one n slot p vs = record { setting = record { network = n; slot = slot; profile = p; vectors = vs }; solo = fresh_solo }
+use Rattle.mme_core.specs.World.{World, fresh_subscribers, fresh_world, never_seen, world_of}
 
 -- the next one is made
 pub fresh_more : (n : Network) (slot : ℕ) (ps : List Profile) (vectors : List (List Vector)) (p : Profile) (vs : List Vector)
     → slice_get ps slot ≡ Some p → vectors_at slot vectors ≡ vs
     → fresh_subscribers n slot (drop slot ps) vectors
-    ≡ fresh_one n slot p vs ∷ fresh_subscribers n (slot + 1) (drop (slot + 1) ps) vectors
+    ≡ never_seen n slot p vs ∷ fresh_subscribers n (slot + 1) (drop (slot + 1) ps) vectors
 fresh_more n slot ps vectors p vs h k =
     ap (λ xs. fresh_subscribers n slot xs vectors) (drop_more ps slot p (slice_get_within ps slot p h))
-    ∙ ap (λ x. fresh_one n slot x (get_or vectors slot []) ∷ fresh_subscribers n (slot + 1) (drop (slot + 1) ps) vectors)
+    ∙ ap (λ x. never_seen n slot x (get_or vectors slot []) ∷ fresh_subscribers n (slot + 1) (drop (slot + 1) ps) vectors)
     (get_or_from_slice_get ps slot p p h)
-    ∙ ap (λ ys. fresh_one n slot p ys ∷ fresh_subscribers n (slot + 1) (drop (slot + 1) ps) vectors) k
+    ∙ ap (λ ys. never_seen n slot p ys ∷ fresh_subscribers n (slot + 1) (drop (slot + 1) ps) vectors) k
 
 -- one more stands after those who were made
 pub fresh_pushed : (made now rest rest_now all : List SubscriberView) (w x : SubscriberView) → now ≡ made ++ w ∷ [] → w ≡ x

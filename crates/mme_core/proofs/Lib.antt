@@ -19,5 +19,6 @@ pub mod Faults
 pub mod Taken
 pub mod Ticks
 pub mod Placing
+pub mod Further
 pub mod Quiet
 pub mod Taking

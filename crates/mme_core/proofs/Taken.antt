@@ -12,7 +12,7 @@ use Rattle.mme_core.specs.Sight.{Sight}
 use Rattle.mme_core.specs.World.{world_of}
 
 -- of an MME with these owners
-abbrev IsMme : Sight → OwnersView → Type 0
+abbrev pub IsMme : Sight → OwnersView → Type 0
 IsMme s o = (o.clock ≤ s.clock) × IsKept (world_of s o) × AreApart (world_of s o)
 
 -- ---- it is taken

@@ -1,5 +1,6 @@
 pub mod Sight
 pub mod World
+pub mod Provisioning
 pub mod Quiet
 pub mod Ready
 pub mod Projection

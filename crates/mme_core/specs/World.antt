@@ -124,12 +124,16 @@ sight_run s (event ∷ events) = sight_run (sight_after s event) events
 
 -- ---- the subscribers
 
--- subscribers who were never seen, from a slot on
+-- a subscriber who was never seen, with these vectors
+abbrev pub never_seen : Network → ℕ → Profile → List Vector → SubscriberView
+never_seen n slot p vectors =
+    record { setting = record { network = n; slot = slot; profile = p; vectors = vectors }; solo = fresh_solo }
+
+-- such subscribers, from a slot on
 abbrev pub fresh_subscribers : Network → ℕ → List Profile → List (List Vector) → List SubscriberView
 fresh_subscribers n slot [] vectors = []
 fresh_subscribers n slot (p ∷ ps) vectors =
-    record { setting = record { network = n; slot = slot; profile = p; vectors = vectors_at slot vectors }; solo = fresh_solo }
-    ∷ fresh_subscribers n (slot + 1) ps vectors
+    never_seen n slot p (vectors_at slot vectors) ∷ fresh_subscribers n (slot + 1) ps vectors
 
 -- ---- the MME
 

@@ -1,13 +1,15 @@
 //! The MME of the LTE core network: stations, subscribers, and what it sends at each event.
 //!
 //! Events go in one at a time by [`Mme::step`] or in a list by [`Mme::run`]. What a subscriber is sent is proved to be what its
-//! one machine sends over the items that the events have for it, whatever else they hold.
+//! one machine sends over the items that the events have for it, whatever else they hold. Between events a subscriber
+//! ([`Mme::add`]) or a vector ([`Mme::give`]) may be added.
 #![tactic(auto)]
 
 mod config;
 mod event;
 mod laws;
 mod mme;
+mod provisioned;
 mod provisioning;
 mod station;
 

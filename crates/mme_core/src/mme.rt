@@ -44,7 +44,7 @@ use laws_subscriber::{
 use mme_answering::{Outs, Prepared, pass, prepare, settle};
 use mme_owners::Owners;
 use mme_routing::{Destination, Outcome, outcome_of};
-use mme_types::{EnbWorld, SentOctets, StationNumber, StationState};
+use mme_types::{EnbWorld, SentOctets, SharedNetwork, StationNumber, StationState};
 use nas_elements::Imsi;
 use std::alloc::{AllocError, Global};
 use std::marker::Model;
@@ -59,10 +59,12 @@ pub(crate) struct Surroundings {
     config: Config,
     clock: u64,
     stations: EnbWorld,
-    provision: Provision,
+    pub(crate) provision: Provision,
     // the octets of S1 SETUP RESPONSE, if it has a written form
     setup_response: Option<SentOctets>,
-    alloc: Global,
+    // the network, as all subscribers share it
+    pub(crate) shared: SharedNetwork,
+    pub(crate) alloc: Global,
 }
 
 impl Model for Surroundings {
@@ -76,15 +78,17 @@ impl Model for Surroundings {
     ghost use Rattle.s1ap_pdus.specs.Pdus.{encoded};
     ghost use Rattle.mme_routing.specs.Outcomes.{setup_response as response_of};
 
-    ghost invariant = { λ s. (length s.stations ≡ 128) × (s.setup_response ≡ encoded (response_of s.config.network)) };
+    ghost invariant = { λ s. (length s.stations ≡ 128)
+        × (s.setup_response ≡ encoded (response_of s.config.network))
+        × (s.shared ≡ s.config.network) };
 }
 
 /// An MME with its stations, strangers and subscribers; a contract sees what every owner may see, the strangers that aren't
 /// closed, and each subscriber.
 #[derive(Drop)]
 pub struct Mme {
-    surroundings: Surroundings,
-    owners: Owners,
+    pub(crate) surroundings: Surroundings,
+    pub(crate) owners: Owners,
     // room for what is sent next; what it has means nothing
     room: Outs,
 }
@@ -138,6 +142,7 @@ impl Mme {
                     stations: begun.stations,
                     provision,
                     setup_response: begun.setup_response,
+                    shared: begun.shared,
                     alloc,
                 };
                 Ok(Mme {

@@ -1,12 +1,11 @@
-//! What an MME begins with: its stations, the subscribers of a provisioning, and no strangers.
+//! What an MME begins with: its stations, the subscribers of a provisioning, and no strangers; and one subscriber more.
 
-ghost use Rattle.std.specs.Prelude.{◌≡◌, ◌<◌, ◌≤◌, ◌++◌, ◌∷◌, [], length, IfOk, OnOk};
+ghost use Rattle.std.specs.Prelude.{◌≡◌, ◌<◌, ◌≤◌, ◌++◌, ◌∷◌, [], length, IfOk, OnErr, OnOk};
 ghost use Rattle.identity_slots.specs.Ids.{slots};
 ghost use Rattle.s1ap_pdus.specs.Pdus.{encoded};
 ghost use Rattle.mme_types.specs.Stations.{no_stations};
 ghost use Rattle.mme_routing.specs.Outcomes.{setup_response};
-ghost use Rattle.emm_machine.specs.Words.{fresh_solo};
-ghost use Rattle.mme_core.specs.World.{fresh_subscribers};
+ghost use Rattle.mme_core.specs.World.{fresh_subscribers, never_seen};
 
 use emm_machine::Subscriber;
 use identity_slots::{Profile, Provision, Slot, Vectors};
@@ -30,8 +29,8 @@ fn share(alloc: Global, network: &Network) -> Result<SharedNetwork, AllocError>
     SharedNetwork::new(alloc, network.clone()?)
 }
 
-// One subscriber more, who was never seen, with its vectors.
-fn push_fresh(
+/// One subscriber more, who was never seen, with its vectors. Refused, all are as they were.
+pub(crate) fn push_fresh(
     alloc: Global,
     network: &SharedNetwork,
     owners: &mut Owners,
@@ -42,10 +41,9 @@ fn push_fresh(
     requires { length owners.old.subscribers < slots }
     ensures clock { owners.new.clock ≡ owners.old.clock }
     ensures strangers { owners.new.strangers ≡ owners.old.strangers }
-    ensures ok { OnOk result (owners.new.subscribers ≡ owners.old.subscribers ++ (record {
-      setting = record { network = network.now; slot = slot; profile = profile.now; vectors = vectors };
-      solo = fresh_solo;
-    }) ∷ []) }
+    ensures ok { OnOk result
+        (owners.new.subscribers ≡ owners.old.subscribers ++ never_seen network.now slot profile.now vectors ∷ []) }
+    ensures err { OnErr result (owners.new ≡ owners.old) }
 {
     let subscriber = Subscriber::new(alloc, network, slot, profile, vectors)?;
     owners.push(subscriber)
@@ -54,7 +52,7 @@ fn push_fresh(
 /// No strangers, and the subscribers of a provisioning, who were never seen; their vectors are taken out of it.
 pub(crate) fn fresh_owners(
     alloc: Global,
-    network: &Network,
+    network: &SharedNetwork,
     provision: &mut Provision,
 ) -> Result<Owners, AllocError>
     ensures clock { IfOk result (λ t. t.clock ≡ 0) }
@@ -64,14 +62,13 @@ pub(crate) fn fresh_owners(
     ensures few { OnOk result (length provision.old.profiles ≤ slots) }
     ensures profiles { OnOk result (provision.new.profiles ≡ provision.old.profiles) }
 {
-    let shared = share(alloc, network)?;
     let count = provision.len();
     let mut owners = Owners::new(alloc, 0);
     for place in 0..count {
         let slot = slot_of(place);
         let vectors = provision.take_vectors(slot);
         let profile = provision.profile(slot);
-        match push_fresh(alloc, &shared, &mut owners, slot, profile, vectors) {
+        match push_fresh(alloc, network, &mut owners, slot, profile, vectors) {
             Ok(()) => {}
             Err(fault) => {
                 // (where the scope ended them, each part of them would be ended here)
@@ -88,6 +85,7 @@ pub(crate) fn fresh_owners(
 pub(crate) struct Begun {
     pub(crate) stations: EnbWorld,
     pub(crate) setup_response: Option<SentOctets>,
+    pub(crate) shared: SharedNetwork,
     pub(crate) owners: Owners,
 }
 
@@ -99,6 +97,7 @@ pub(crate) fn begin(
 ) -> Result<Begun, AllocError>
     ensures stations { IfOk result (λ b. b.stations ≡ no_stations) }
     ensures response { IfOk result (λ b. b.setup_response ≡ encoded (setup_response network.now)) }
+    ensures shared { IfOk result (λ b. b.shared ≡ network.now) }
     ensures clock { IfOk result (λ b. b.owners.clock ≡ 0) }
     ensures strangers { IfOk result (λ b. b.owners.strangers ≡ []) }
     ensures value { IfOk result
@@ -108,10 +107,12 @@ pub(crate) fn begin(
 {
     let stations = EnbWorld::new(alloc)?;
     let setup_response = setup_response(alloc, network)?;
-    let owners = fresh_owners(alloc, network, provision)?;
+    let shared = share(alloc, network)?;
+    let owners = fresh_owners(alloc, &shared, provision)?;
     Ok(Begun {
         stations,
         setup_response,
+        shared,
         owners,
     })
 }

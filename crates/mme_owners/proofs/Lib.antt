@@ -1,4 +1,5 @@
 mod Apart
+mod Given
 mod Noting
 mod Onward
 mod Owned

@@ -5,5 +5,6 @@ pub mod SubscriberLaws
 pub mod SteppedView
 pub mod Records
 pub mod Changed
+pub mod Given
 pub mod Matching
 pub mod Touched

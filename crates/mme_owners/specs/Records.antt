@@ -1,7 +1,9 @@
 -- Subscribers as they were when they were last touched, and as they are now.
 use Rattle.std.specs.Prelude.{ℕ, ◌-◌, ◌≤◌, List, [], ◌∷◌, length, map}
 use Rattle.identity_slots.specs.Ids.{slots}
+use Rattle.identity_slots.specs.declared.profile.Vector.{Vector}
 use Rattle.emm_state.specs.declared.solo.Solo.{Solo}
+use Rattle.emm_machine.specs.Given.{with_given}
 use Rattle.emm_machine.specs.SubscriberView.{SubscriberView}
 use Rattle.emm_machine.specs.Ticks.{AreAbove, countdowns, ticks_after}
 use Rattle.sorted_list.specs.Ordered.{Every}
@@ -33,6 +35,10 @@ AreFresh clock rs = Every (IsFresh clock) rs
 -- the record, touched now
 abbrev pub woken : ℕ → Record → Record
 woken clock r = record { subscriber = view_at clock r; touched = clock }
+
+-- and with a vector more
+abbrev pub given_now : ℕ → Vector → Record → Record
+given_now clock v r = record { subscriber = with_given v (view_at clock r); touched = clock }
 
 -- and in another state
 abbrev pub renewed : ℕ → Solo → Record → Record

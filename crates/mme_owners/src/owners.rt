@@ -15,6 +15,7 @@ ghost use Rattle.stranger_machine.specs.declared.turn.Notice.TheVariants.{Tick};
 ghost use Rattle.mme_tables.specs.Waiting.{due_ids};
 ghost use Rattle.mme_owners.specs.Subscribers.{due_slots, one_less, slots_stepped, tick_settled, with_solo, with_stepped, AreCounting, AreOnward, IsCounting, IsOnwardAt};
 ghost use Rattle.mme_owners.specs.Touched.{all_whereabouts, touched_slots, whereabouts, KeepsPlace};
+ghost use Rattle.mme_owners.specs.Given.{TakesOneVector};
 ghost use Rattle.mme_owners.specs.Owners.{with_one, IsFitIf, IsFreeIf, IsWaitAfter, NobodyIsDue};
 ghost use Rattle.mme_owners.specs.Placed.{AreApart, IsOn, NoneWaitsIf};
 
@@ -22,7 +23,7 @@ use crate::placing::{leave, place, place_all, place_of};
 use crate::records::Records;
 use crate::stepped::Stepped;
 use emm_machine::{States, Subscriber};
-use identity_slots::{AssociationId, Slot, station_in};
+use identity_slots::{AssociationId, ProvisionFault, Slot, Vector, station_in};
 use mme_tables::{Connections, Due};
 use mme_types::{Connection, StationNumber};
 use s1ap_elements::AssociationToReset;
@@ -141,6 +142,17 @@ impl Owners {
         ensures err { OnErr result (self.new ≡ self.old) }
     {
         self.records.push(subscriber, &mut self.connections)
+    }
+
+    /// The subscriber of a slot has one vector more, after all others; no other is touched. Full where 64 of its vectors aren't
+    /// spent or 2^62 were given, then NoMemory where room was refused; then all is as it was, and the secrets of the vector are
+    /// overwritten.
+    pub fn give(&mut self, alloc: Global, slot: Slot, vector: Vector) -> Result<(), ProvisionFault>
+        requires { slot < length self.old.subscribers }
+        ensures takes { TakesOneVector slot vector self.old.subscribers result self.new.subscribers }
+        ensures rest { self.new ≡ record self.old { subscribers = self.new.subscribers } }
+    {
+        self.records.give(alloc, slot, vector)
     }
 
     /// How many subscribers there are. Each countdown of theirs that runs has from 1 to 3480 ticks left.

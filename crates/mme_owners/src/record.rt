@@ -1,13 +1,17 @@
 //! Subscribers as they were when they were last touched.
 
-ghost use Rattle.std.specs.Prelude.{◌≡◌};
+ghost use Rattle.std.specs.Prelude.{◌≡◌, ◌≢◌, ◌↔◌, Err, IfErr, OnErr, OnOk, true};
+ghost use Rattle.identity_slots.specs.declared.provision.ProvisionFault.TheVariants.{Full, NoMemory};
 ghost use Rattle.emm_state.specs.Taking.{IsOnward};
 ghost use Rattle.emm_machine.specs.Forgetting.{left_for};
+ghost use Rattle.emm_machine.specs.Given.{is_stocked};
 ghost use Rattle.emm_machine.specs.Ticks.{countdowns};
-ghost use Rattle.mme_owners.specs.Records.{renewed, view_at, woken, IsFresh};
+ghost use Rattle.mme_owners.specs.Records.{given_now, renewed, view_at, woken, IsFresh};
 
 use emm_machine::Subscriber;
 use emm_state::Draft;
+use identity_slots::{ProvisionFault, Vector};
+use std::alloc::Global;
 
 /// A subscriber as it was when the clock was `touched`.
 #[derive(Drop)]
@@ -24,6 +28,19 @@ impl Record {
     {
         self.subscriber.pass(clock - self.touched);
         self.touched = clock;
+    }
+
+    /// The subscriber is as it is now, and has one vector more. Full where it takes none, then NoMemory where room was refused;
+    /// then it is only as it is now.
+    pub fn give(&mut self, now: u64, alloc: Global, vector: Vector) -> Result<(), ProvisionFault>
+        requires { IsFresh now self.old }
+        ensures full { (result ≡ Err Full) ↔ (is_stocked (view_at now self.old) ≡ true) }
+        ensures fault { IfErr result (λ fault. fault ≢ NoMemory → fault ≡ Full) }
+        ensures given { OnOk result (self.new ≡ given_now now vector self.old) }
+        ensures err { OnErr result (self.new ≡ woken now self.old) }
+    {
+        self.wake(now);
+        self.subscriber.give(alloc, vector)
     }
 
     /// The state is that of this step now; answers the box of the one before, with its state, but for a context that has ended.

@@ -10,13 +10,14 @@ ghost use Rattle.stranger_machine.specs.Table.{known_id, noted};
 ghost use Rattle.stranger_machine.specs.declared.turn.Notice.TheVariants.{Tick};
 ghost use Rattle.mme_tables.specs.Waiting.{due_ids, wait_at, wait_of};
 ghost use Rattle.mme_owners.specs.Subscribers.{due_slots, one_less, slots_stepped, tick_settled, with_solo, with_stepped, AreCounting, AreOnward, IsCounting, IsOnwardAt};
+ghost use Rattle.mme_owners.specs.Given.{TakesOneVector};
 ghost use Rattle.mme_owners.specs.Owners.{IsStart, NobodyIsDue};
 
 use crate::retiming::{restart, retime_all};
 use crate::stepped::Stepped;
 use crate::subscribers::Subscribers;
 use emm_machine::{States, Subscriber};
-use identity_slots::{AssociationId, Slot};
+use identity_slots::{AssociationId, ProvisionFault, Slot, Vector};
 use mme_tables::{Connections, Due, Strangers, change_wait, find_due, retime, stop_wait, wait_of};
 use std::alloc::{AllocError, Global};
 use std::marker::Model;
@@ -192,6 +193,22 @@ impl Records {
         let _ = self.subscribers.len();
         retime_all(&mut self.timers, stepped.as_slice());
         self.subscribers.settle_all(stepped);
+    }
+
+    /// The subscriber of a slot has one vector more, after all others; no other is touched. Full where 64 of its vectors aren't
+    /// spent or 2^62 were given, then NoMemory where room was refused; then all is as it was, and the secrets of the vector are
+    /// overwritten.
+    pub(crate) fn give(
+        &mut self,
+        alloc: Global,
+        slot: Slot,
+        vector: Vector,
+    ) -> Result<(), ProvisionFault>
+        requires { slot < length self.old.subscribers }
+        ensures takes { TakesOneVector slot vector self.old.subscribers result self.new.subscribers }
+        ensures rest { self.new ≡ record self.old { subscribers = self.new.subscribers } }
+    {
+        self.subscribers.give(alloc, slot, vector)
     }
 
     /// The stranger with an id is closed, and T3470 stops, if it ran.

@@ -9,6 +9,7 @@ ghost use Rattle.emm_machine.specs.Ticks.{countdowns};
 ghost use Rattle.emm_machine.specs.Words.{states_of};
 ghost use Rattle.sorted_list.specs.Ordered.{Every};
 ghost use Rattle.mme_owners.specs.Changed.{changed_at};
+ghost use Rattle.mme_owners.specs.Given.{TakesOneVector};
 ghost use Rattle.mme_owners.specs.Records.{renewed, touched_views, views, with_records, IsSubscriberTable};
 ghost use Rattle.mme_owners.specs.Subscribers.{countdowns_at, due_slots, slots_stepped, step_at, tick_settled, with_solo, with_stepped, AreCounting, AreOnward, IsCounting, IsOnwardAt};
 
@@ -17,7 +18,7 @@ use crate::spare::{Spares, free};
 use crate::stepped::Stepped;
 use emm_machine::{States, Subscriber};
 use emm_state::Draft;
-use identity_slots::Slot;
+use identity_slots::{ProvisionFault, Slot, Vector};
 use mme_tables::Connections;
 use mme_types::{EnbWorld, SoloEvent, UeMessage};
 use std::alloc::{AllocError, Global};
@@ -52,6 +53,23 @@ fn settle_due(records: &mut Vec<Record>, clock: u64, due: Stepped)
     let slot = due.slot();
     let place = slot.get() as usize;
     free(records[place].renew(clock, due.into_draft()));
+}
+
+// One has a vector more. Refused, it is woken at most.
+fn give_one(
+    records: &mut Vec<Record>,
+    clock: u64,
+    alloc: Global,
+    slot: Slot,
+    vector: Vector,
+) -> Result<(), ProvisionFault>
+    requires table { IsSubscriberTable clock records.old.items }
+    requires slot { slot < length records.old.items }
+    ensures table { IsSubscriberTable clock records.new.items }
+    ensures takes { TakesOneVector slot vector (views clock records.old.items) result (views clock records.new.items) }
+{
+    let place = slot.get() as usize;
+    records[place].give(clock, alloc, vector)
 }
 
 // Each who was due has the state that it was prepared for.
@@ -188,6 +206,17 @@ impl Subscribers {
     {
         let spares = &mut self.spares;
         settle_one(&mut self.records, self.clock, spares, stepped)
+    }
+
+    /// The subscriber of a slot has one vector more, after all others; no other is touched. Full where 64 of its vectors aren't
+    /// spent or 2^62 were given, then NoMemory where room was refused; then each is as it was, and the secrets of the vector are
+    /// overwritten.
+    pub fn give(&mut self, alloc: Global, slot: Slot, vector: Vector) -> Result<(), ProvisionFault>
+        requires { slot < length self.old.subscribers }
+        ensures takes { TakesOneVector slot vector self.old.subscribers result self.new.subscribers }
+        ensures clock { self.new.clock ≡ self.old.clock }
+    {
+        give_one(&mut self.records, self.clock, alloc, slot, vector)
     }
 
     /// The states of slots are those that were prepared, one after the other. Takes no memory.

@@ -11,6 +11,7 @@ invariant_of-self c = (
   ap length c.settle_station.ensures ∙ placed_many c.args.moves.station c.args.moves.state c.self.inside.stations
       ∙ c.self.invariant.0,
   c.self.invariant.1,
+  c.self.invariant.2,
 )
 
 pub returns : goal.returns
