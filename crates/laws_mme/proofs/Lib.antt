@@ -41,3 +41,6 @@ pub mod GivenEarly
 mod GivenFresh
 mod ActByAct
 mod Calls
+pub mod Husks
+pub mod Remembering
+mod RememberedKept

@@ -13,6 +13,7 @@ mod identities;
 mod ids;
 mod keys;
 mod lasting;
+mod restarting;
 mod runs;
 mod stepping;
 mod steps;
@@ -33,6 +34,7 @@ pub use ids::{
 };
 pub use keys::{capabilities_are_replayed, nothing_plain_to_the_registered};
 pub use lasting::{procedures_last, strangers_wait};
+pub use restarting::{nobody_can_tell, what_is_remembered_stays_kept};
 pub use runs::{
     replies_are_in_order, runs_are_fresh, runs_are_guarded, runs_end, runs_join, same_to_station,
     same_to_stranger, slots_run_alone, stations_run_alone, steps_are_a_run, strangers_run_alone,
