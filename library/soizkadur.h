@@ -184,8 +184,8 @@ uint32_t soizkadur_provision_new(soizkadur_mme *mme, const uint8_t *plmn, size_t
 
 /* Provisions a subscriber, as the line `sub`; its slot is the next one, from 0. `address` is its IPv4 address, `gateway` that of
  * its S-GW, and `teid` the S-GW's tunnel end: numbers, such as 0x0a000001 for 10.0.0.1.
- * Refused: NO_MME for an empty handle, BAD_NUMBER (imsi), ORDER before soizkadur_provision_new and once the MME runs, PROVISION if
- * another has the IMSI or the address or if 32768 are provisioned, NO_MEMORY. */
+ * Refused: NO_MME for an empty handle, BAD_NUMBER (imsi), ORDER before soizkadur_provision_new and once the MME runs (then
+ * soizkadur_add_live does it), PROVISION if another has the IMSI or the address or if 32768 are provisioned, NO_MEMORY. */
 uint32_t soizkadur_add(soizkadur_mme *mme, const uint8_t *imsi, size_t imsi_length, uint32_t address, uint32_t gateway,
                        uint32_t teid);
 
@@ -193,7 +193,7 @@ uint32_t soizkadur_add(soizkadur_mme *mme, const uint8_t *imsi, size_t imsi_leng
  * XRES of 4 to 16, KASME of 32. They are used in the order in which they are given. Nothing in them is checked: any octets will do,
  * and a phone's RES is right if it has the octets of XRES, no more and no fewer.
  * Refused: NO_MME for an empty handle, BAD_NUMBER (imsi), BAD_OCTETS (the others), ORDER before soizkadur_provision_new and once
- * the MME runs, PROVISION if nobody has the IMSI or the subscriber has 64 vectors, NO_MEMORY. */
+ * the MME runs (then soizkadur_give_live does it), PROVISION if nobody has the IMSI or the subscriber has 64 vectors, NO_MEMORY. */
 uint32_t soizkadur_give(soizkadur_mme *mme, const uint8_t *imsi, size_t imsi_length, const uint8_t *rand, size_t rand_length,
                         const uint8_t *autn, size_t autn_length, const uint8_t *xres, size_t xres_length, const uint8_t *kasme,
                         size_t kasme_length);
@@ -202,6 +202,25 @@ uint32_t soizkadur_give(soizkadur_mme *mme, const uint8_t *imsi, size_t imsi_len
  * Refused: NO_MME for an empty handle, ORDER if nothing is provisioned; LOST, if no MME runs yet, and then nothing is provisioned
  * any more. */
 uint32_t soizkadur_start(soizkadur_mme *mme);
+
+/* ---- an MME that runs is provisioned further. Neither call is an event: nothing is sent, and the replies of the last event stay.
+ *      Nobody else's slot, states or vectors change. */
+
+/* Provisions a further subscriber; the arguments are those of soizkadur_add. Its slot is the next one, it has no vectors, and it
+ * was never seen.
+ * Refused: BAD_NUMBER (imsi), NO_MME if no MME runs, PROVISION if another has the IMSI or the address or if 32768 are provisioned,
+ * NO_MEMORY. */
+uint32_t soizkadur_add_live(soizkadur_mme *mme, const uint8_t *imsi, size_t imsi_length, uint32_t address, uint32_t gateway,
+                            uint32_t teid);
+
+/* Gives a subscriber one more authentication vector, after all others of this subscriber; the arguments are those of
+ * soizkadur_give. 64 may be there that aren't spent: a vector is spent once the phone has answered its challenge, or is no longer
+ * being authenticated.
+ * Refused: BAD_NUMBER (imsi), BAD_OCTETS (the others), NO_MME if no MME runs, UNKNOWN_IMSI, PROVISION if 64 of its vectors aren't
+ * spent or it was given 2^62, NO_MEMORY. */
+uint32_t soizkadur_give_live(soizkadur_mme *mme, const uint8_t *imsi, size_t imsi_length, const uint8_t *rand, size_t rand_length,
+                             const uint8_t *autn, size_t autn_length, const uint8_t *xres, size_t xres_length,
+                             const uint8_t *kasme, size_t kasme_length);
 
 /* ---- events. Each answers 0, and its reply is what the MME sends; or it is refused: NO_MME, NO_MEMORY, or as its comment says.
  *      A refused event leaves the MME, and the replies of the last event that was taken, as they were.

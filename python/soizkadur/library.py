@@ -63,6 +63,8 @@ CALLS = {
     "add": (MME, *OCTETS, U32, U32, U32),
     "give": (MME, *OCTETS, *OCTETS, *OCTETS, *OCTETS, *OCTETS),
     "start": (MME,),
+    "add_live": (MME, *OCTETS, U32, U32, U32),
+    "give_live": (MME, *OCTETS, *OCTETS, *OCTETS, *OCTETS, *OCTETS),
     "up": (MME, U8),
     "lost": (MME, U8),
     "in": (MME, U8, *OCTETS),

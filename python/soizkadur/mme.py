@@ -87,9 +87,14 @@ def _octets(text: str | bytes) -> bytes:
     return text if isinstance(text, bytes) else text.encode(errors="surrogateescape")
 
 
+def _sized(*parts: bytes) -> list[bytes | int]:
+    """Each of these octets with its length."""
+    return [given for part in parts for given in (part, len(part))]
+
+
 class Mme:
     """One MME. It begins with nothing: `from_lines` makes one of provisioning lines, or lines, or `provision`, `add`, `give` and
-    `start` make it one by one.
+    `start` make it one by one. While it runs, `add_live` and `give_live` provision further subscribers and vectors.
 
     As a context manager it is closed at its end, which frees its memory; `close` does so earlier. It stays on the thread that first
     used it, which is checked here, and can't be copied or pickled.
@@ -170,22 +175,34 @@ class Mme:
         """Provisions a subscriber, whose slot is the next one: its IPv4 address, its S-GW's, and the S-GW's tunnel end.
 
         Refused: NO_MME, BAD_NUMBER, ORDER, PROVISION, NO_MEMORY."""
-        digits = _octets(imsi)
-        self._take("add", digits, len(digits), within(address, 32), within(gateway, 32), within(teid, 32))
+        self._take("add", *_sized(_octets(imsi)), within(address, 32), within(gateway, 32), within(teid, 32))
 
     def give(self, imsi: str, rand: bytes, autn: bytes, xres: bytes, kasme: bytes) -> None:
         """Gives a subscriber one more authentication vector (TS 33.401 clause 6.1.2): RAND and AUTN of 16 octets, XRES of 4 to 16,
         KASME of 32.
 
         Refused: NO_MME, BAD_NUMBER, BAD_OCTETS, ORDER, PROVISION, NO_MEMORY."""
-        given: list[bytes | int] = []
-        for part in (_octets(imsi), rand, autn, xres, kasme):
-            given += [part, len(part)]
-        self._take("give", *given)
+        self._take("give", *_sized(_octets(imsi), rand, autn, xres, kasme))
 
     def start(self) -> None:
         """Starts an MME with what is provisioned; if it runs already, nothing changes. Refused: NO_MME, ORDER, LOST."""
         self._take("start")
+
+    # --- Provisioning while it runs ---
+
+    def add_live(self, imsi: str, address: int, gateway: int, teid: int) -> None:
+        """Provisions a further subscriber of an MME that runs: its slot is the next one, and it has no vectors. Nothing is sent,
+        and the replies of the last event stay.
+
+        Refused: BAD_NUMBER, NO_MME, PROVISION, NO_MEMORY."""
+        self._take("add_live", *_sized(_octets(imsi)), within(address, 32), within(gateway, 32), within(teid, 32))
+
+    def give_live(self, imsi: str, rand: bytes, autn: bytes, xres: bytes, kasme: bytes) -> None:
+        """Gives a subscriber of an MME that runs one more authentication vector, after all others of it; 64 may be there that
+        aren't spent. Nothing is sent, and the replies of the last event stay.
+
+        Refused: BAD_NUMBER, BAD_OCTETS, NO_MME, UNKNOWN_IMSI, PROVISION, NO_MEMORY."""
+        self._take("give_live", *_sized(_octets(imsi), rand, autn, xres, kasme))
 
     # --- Events ---
 

@@ -30,7 +30,7 @@ SAID_OTHERWISE = {
     "Watched::flush": ["bytes", "failed", "ended", "calls"], "play_mme": ["the one"], "play_sub": ["the one"], "play_vec": ["the one"],
     "print_show": ["unknown", "err"], "play_show": ["unknown", "err", "stops"], "play_lines": ["played"], "PlaysLines::play_line": ["played"],
     **{"Session::" + call: ["the one"]
-       for call in ("play", "begin", "add", "give", "start", "up", "down", "hear", "data_waits", "cancel",
+       for call in ("play", "begin", "add", "give", "start", "add_live", "give_live", "up", "down", "hear", "data_waits", "cancel",
                     "tick")},
     "Owners::give": ["takes", "rest"], "Subscribers::give": ["takes", "clock"], "add_once": ["the one"], "give_once": ["the one"],
 }

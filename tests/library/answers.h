@@ -56,6 +56,14 @@ static inline void print(struct text *text, const char *format, ...)
     put(text, piece, (size_t)length);
 }
 
+/* Zeros in place of octets, whether or not anybody reads them again. */
+static inline void wipe(void *octets, size_t length)
+{
+    volatile uint8_t *at = (volatile uint8_t *)octets;
+    for (size_t left = length; left > 0; left--)
+        *at++ = 0;
+}
+
 static inline int is_same(const struct text *left, const struct text *right)
 {
     return left->length == right->length && (left->length == 0 || memcmp(left->at, right->at, left->length) == 0);
@@ -140,6 +148,7 @@ static inline void put_message(struct text *answers, soizkadur_mme *mme, size_t 
     print(answers, "%u ", (unsigned)output.station);
     put_hex(answers, octets, output.length);
     put(answers, "\n", 1);
+    wipe(octets, output.length); /* it may carry a key */
 }
 
 /* The reply at a place; answers as soizkadur_count does. */

@@ -34,16 +34,18 @@ static inline const uint8_t *octets(struct span word)
     return (const uint8_t *)word.at;
 }
 
+/* What was read of hex last, by places. */
+static uint8_t unhexed[4][20000];
+
 /* Octets in hex, or "-" for none, in a place that the next call of this place overwrites. */
 static inline const uint8_t *unhex(struct span word, size_t place, size_t *length)
 {
-    static uint8_t read[4][20000];
     *length = word.length / 2;
     for (size_t at = 0; at < *length; at++) {
         char digits[3] = {word.at[2 * at], word.at[2 * at + 1], 0};
-        read[place][at] = (uint8_t)strtoul(digits, NULL, 16);
+        unhexed[place][at] = (uint8_t)strtoul(digits, NULL, 16);
     }
-    return read[place];
+    return unhexed[place];
 }
 
 static inline int digit(struct span word, size_t at)
@@ -67,28 +69,70 @@ static inline uint32_t provision(soizkadur_mme *mme, const struct words *given)
                                    number(given->word[7], 10));
 }
 
-static inline uint32_t give(soizkadur_mme *mme, const struct words *given)
+/* The line `sub`, as the call that is named. */
+static inline uint32_t add(soizkadur_mme *mme, const struct words *given,
+                           uint32_t (*call)(soizkadur_mme *, const uint8_t *, size_t, uint32_t, uint32_t, uint32_t))
 {
-    const uint8_t *part[4];
-    size_t length[4];
-    for (size_t at = 0; at < 4; at++)
-        part[at] = unhex(given->word[2 + at], at, &length[at]);
-    return soizkadur_give(mme, octets(given->word[1]), given->word[1].length, part[0], length[0], part[1], length[1], part[2],
-                          length[2], part[3], length[3]);
+    struct span imsi = given->word[1];
+    return call(mme, octets(imsi), imsi.length, (uint32_t)number(given->word[2], 16), (uint32_t)number(given->word[3], 16),
+                (uint32_t)number(given->word[4], 16));
 }
 
-/* The call that a line of provisioning stands for. */
+/* The octets of a vector, of a line `vec`. */
+struct vector {
+    const uint8_t *rand, *autn, *xres, *kasme;
+    size_t rand_length, autn_length, xres_length, kasme_length;
+};
+
+static inline struct vector vector_of(const struct words *given)
+{
+    struct vector vector;
+    vector.rand = unhex(given->word[2], 0, &vector.rand_length);
+    vector.autn = unhex(given->word[3], 1, &vector.autn_length);
+    vector.xres = unhex(given->word[4], 2, &vector.xres_length);
+    vector.kasme = unhex(given->word[5], 3, &vector.kasme_length);
+    return vector;
+}
+
+/* The line `vec`. */
+static inline uint32_t give(soizkadur_mme *mme, const struct words *given)
+{
+    struct vector vector = vector_of(given);
+    return soizkadur_give(mme, octets(given->word[1]), given->word[1].length, vector.rand, vector.rand_length, vector.autn,
+                          vector.autn_length, vector.xres, vector.xres_length, vector.kasme, vector.kasme_length);
+}
+
+static inline uint32_t give_live(soizkadur_mme *mme, const struct words *given)
+{
+    struct vector vector = vector_of(given);
+    return soizkadur_give_live(mme, octets(given->word[1]), given->word[1].length, vector.rand, vector.rand_length, vector.autn,
+                               vector.autn_length, vector.xres, vector.xres_length, vector.kasme, vector.kasme_length);
+}
+
+/* Whether a line provisions, and comes below `mme`. */
+static inline int is_further(struct span line)
+{
+    return begins(line, "sub ") || begins(line, "vec ");
+}
+
+/* The call that a line of provisioning stands for before the MME runs. */
 static inline uint32_t provisioned(soizkadur_mme *mme, struct span line)
 {
     struct words given = words_of(line);
     if (begins(line, "mme "))
         return provision(mme, &given);
     if (begins(line, "sub "))
-        return soizkadur_add(mme, octets(given.word[1]), given.word[1].length, (uint32_t)number(given.word[2], 16),
-                             (uint32_t)number(given.word[3], 16), (uint32_t)number(given.word[4], 16));
+        return add(mme, &given, soizkadur_add);
     if (begins(line, "vec "))
         return give(mme, &given);
     return SOIZKADUR_OK;
+}
+
+/* The call that such a line stands for while the MME runs. */
+static inline uint32_t provisioned_live(soizkadur_mme *mme, struct span line)
+{
+    struct words given = words_of(line);
+    return begins(line, "sub ") ? add(mme, &given, soizkadur_add_live) : give_live(mme, &given);
 }
 
 /* The call that a line of an event stands for. */

@@ -3,17 +3,18 @@
  *
  *     failing TRACE ANSWERS ..    with malloc and realloc wrapped by the linker
  *
- * Each trace is played line by line (soizkadur_line) and by the calls that its lines stand for, its head is taken by soizkadur_new,
- * and each message that is sent in it is read by soizkadur_s1ap. ANSWERS are those that the trace must have. Prints for each trace
- * how many allocations were refused.
+ * Each trace is played line by line (soizkadur_line), by the calls that its lines stand for, and by these with what its lines `sub`
+ * and `vec` provision coming while the MME runs; its head is taken by soizkadur_new, and each message that is sent in it is read by
+ * soizkadur_s1ap. ANSWERS are those that the trace must have. Where all allocations are refused, a call that provisions while the
+ * MME runs and has another cause to be refused is refused for that one. Prints for each trace how many allocations were refused.
  */
 #include "calls.h"
 
 #define MOST_IMSIS 4
 
-/* While a call is made, allocations are counted, and the one with this number is refused; none is, where it is 0. */
+/* While a call is made, allocations are counted, and the one with this number is refused; none is, where it is 0. Or all are. */
 static unsigned long asked, refused;
-static int is_called;
+static int is_called, all_are_refused;
 
 void *__real_malloc(size_t size);
 void *__real_realloc(void *old, size_t size);
@@ -22,7 +23,7 @@ void *__wrap_realloc(void *old, size_t size);
 
 static int is_refused(void)
 {
-    return is_called && ++asked == refused;
+    return is_called && (++asked == refused || all_are_refused);
 }
 
 void *__wrap_malloc(size_t size)
@@ -75,6 +76,12 @@ static void must_be(const struct text *got, const struct text *wanted, const cha
     must(is_same(got, wanted), what);
 }
 
+static void must_be_as_before(soizkadur_mme *mme, const char *what)
+{
+    look(&now, mme);
+    must_be(&now, &before, what);
+}
+
 /* The answers to an event; ticks that were refused are made again, and their answers come then. */
 static void put_taken(struct text *answers, soizkadur_mme *mme, struct counts *counts)
 {
@@ -100,8 +107,7 @@ static enum next after(uint32_t answer, soizkadur_mme *mme, struct counts *count
 {
     if (answer == SOIZKADUR_NO_MEMORY) {
         counts->no_memory++;
-        look(&now, mme);
-        must_be(&now, &before, "a call that was refused for want of memory changed nothing");
+        must_be_as_before(mme, "a call that was refused for want of memory changed nothing");
         return AGAIN;
     }
     if (answer == SOIZKADUR_LOST) {
@@ -161,6 +167,12 @@ static uint32_t done(soizkadur_mme *mme, struct span line)
     return is_event(line) ? called(mme, line) : provisioned(mme, line);
 }
 
+/* The same, of a line below `mme` while the MME runs. */
+static uint32_t done_live(soizkadur_mme *mme, struct span line)
+{
+    return is_further(line) ? provisioned_live(mme, line) : done(mme, line);
+}
+
 /* A call with one allocation refused, made again where it is refused for it. */
 static enum next once_more(uint32_t (*make_call)(soizkadur_mme *, struct span), soizkadur_mme *mme, struct span line,
                            struct counts *counts)
@@ -181,15 +193,15 @@ static uint32_t start(soizkadur_mme *mme, struct span line)
     return soizkadur_start(mme);
 }
 
-/* Plays a trace whose lines are right by the calls that they stand for. */
-static void call(const struct text *trace, struct text *answers, struct counts *counts)
+/* Plays a trace whose lines are right by calls, with the MME started below the line that ends at a place. */
+static void play_calls(const struct text *trace, struct text *answers, struct counts *counts,
+                       uint32_t (*make_call)(soizkadur_mme *, struct span), size_t head)
 {
     soizkadur_mme mme = SOIZKADUR_EMPTY;
     struct span line;
-    size_t lines, head = head_of(trace, &lines), at = 0;
     asked = answers->length = 0;
-    while (next_line(trace, &at, &line)) {
-        once_more(done, &mme, line, counts);
+    for (size_t at = 0; next_line(trace, &at, &line);) {
+        once_more(make_call, &mme, line, counts);
         if (is_event(line))
             put_taken(answers, &mme, counts);
         else
@@ -199,6 +211,23 @@ static void call(const struct text *trace, struct text *answers, struct counts *
     }
     soizkadur_free(&mme);
     refused = refused == 0 ? asked : refused;
+}
+
+/* Plays a trace by the calls that its lines stand for. */
+static void call(const struct text *trace, struct text *answers, struct counts *counts)
+{
+    size_t lines;
+    play_calls(trace, answers, counts, done, head_of(trace, &lines));
+}
+
+/* The same, with all below `mme` provisioned while the MME runs. */
+static void call_live(const struct text *trace, struct text *answers, struct counts *counts)
+{
+    struct span line;
+    size_t at = 0, head = 0;
+    while (next_line(trace, &at, &line) && !is_further(line))
+        head = at;
+    play_calls(trace, answers, counts, done_live, head);
 }
 
 /* How many allocations there are in a run without a refusal, and then one run for each. */
@@ -281,6 +310,80 @@ static struct text said(void (*run)(const struct text *, struct text *, struct c
     return answers;
 }
 
+/* A call that is refused so, whatever memory there is, and changes nothing. */
+#define REFUSED(wanted, call) \
+    (look(&before, mme), CALLED(answer, call), must(answer == SOIZKADUR_##wanted, #call), must_be_as_before(mme, #call))
+
+static uint32_t gives(soizkadur_mme *mme, struct span imsi, size_t rand)
+{
+    static const uint8_t zeros[32];
+    return soizkadur_give_live(mme, octets(imsi), imsi.length, zeros, rand, zeros, 16, zeros, 8, zeros, 32);
+}
+
+/* What is provisioned while the MME of a trace runs is refused for other causes before it is for want of memory. */
+static void other_causes_first(const struct text *trace)
+{
+    static const struct span nobody = {"001010000000777", 15}, no_imsi = {"0010100000007", 13};
+    soizkadur_mme empty = SOIZKADUR_EMPTY, *mme = &empty;
+    struct span line;
+    for (size_t at = 0; next_line(trace, &at, &line) && !is_event(line);) {
+        must(done_live(mme, line) == SOIZKADUR_OK, "the line is taken");
+        must(!begins(line, "mme ") || soizkadur_start(mme) == SOIZKADUR_OK, "the MME starts");
+    }
+    uint32_t answer = SOIZKADUR_OK;
+    while (answer == SOIZKADUR_OK)
+        answer = gives(mme, imsis[0], 16);
+    must(answer == SOIZKADUR_PROVISION, "a subscriber has no more vectors than it may have");
+    all_are_refused = 1;
+    REFUSED(BAD_NUMBER, soizkadur_add_live(mme, octets(no_imsi), no_imsi.length, 1, 2, 3));
+    REFUSED(PROVISION, soizkadur_add_live(mme, octets(imsis[0]), imsis[0].length, 1, 2, 3));
+    REFUSED(PROVISION, soizkadur_add_live(mme, octets(nobody), nobody.length, 0x0a000001, 2, 3));
+    REFUSED(BAD_NUMBER, gives(mme, no_imsi, 15));
+    REFUSED(BAD_OCTETS, gives(mme, nobody, 15));
+    REFUSED(UNKNOWN_IMSI, gives(mme, nobody, 16));
+    REFUSED(PROVISION, gives(mme, imsis[0], 16));
+    all_are_refused = 0;
+    soizkadur_free(mme);
+}
+
+/* Adds what was refused, of which there has to be something. */
+static void count_in(struct counts *all, const struct counts *of_run, const char *what)
+{
+    must(of_run->no_memory > 0 || of_run->lost > 0, what);
+    all->no_memory += of_run->no_memory;
+    all->lost += of_run->lost;
+    all->ticks += of_run->ticks;
+}
+
+/* The ways to play a trace, each of which gives its answers; how many allocations were refused. */
+static unsigned long played_each_way(const struct text *trace, const struct text *wanted, struct counts *counts)
+{
+    void (*const ways[])(const struct text *, struct text *, struct counts *) = {play, call, call_live};
+    unsigned long total = 0;
+    for (size_t place = 0; place < sizeof ways / sizeof ways[0]; place++) {
+        struct counts of_way = {0, 0, 0};
+        total += each(ways[place], trace, wanted, &of_way);
+        must(of_way.no_memory > 0 && of_way.lost > 0, "a call was refused, and a start");
+        count_in(counts, &of_way, "something was refused");
+    }
+    return total;
+}
+
+/* The runs whose answers are those with ample memory; how many allocations were refused. */
+static unsigned long run_each(const struct text *trace, struct counts *counts)
+{
+    void (*const runs[])(const struct text *, struct text *, struct counts *) = {make, read_messages};
+    unsigned long total = 0;
+    for (size_t place = 0; place < sizeof runs / sizeof runs[0]; place++) {
+        struct counts of_run = {0, 0, 0};
+        struct text ample = said(runs[place], trace);
+        total += each(runs[place], trace, &ample, &of_run);
+        count_in(counts, &of_run, "something was refused");
+        forget(&ample);
+    }
+    return total;
+}
+
 int main(int count, char **given)
 {
     must(count > 2 && count % 2 == 1, "failing TRACE ANSWERS ..");
@@ -288,23 +391,9 @@ int main(int count, char **given)
         struct text trace = read_all(given[at]), wanted = read_all(given[at + 1]);
         struct counts counts = {0, 0, 0};
         find_imsis(&trace);
-        unsigned long total = each(play, &trace, &wanted, &counts);
-        struct counts of_calls = {0, 0, 0};
-        total += each(call, &trace, &wanted, &of_calls);
-        must(of_calls.no_memory > 0 && of_calls.lost > 0, "a call was refused, and a start");
-        counts.no_memory += of_calls.no_memory;
-        counts.lost += of_calls.lost;
-        counts.ticks += of_calls.ticks;
-        void (*const runs[])(const struct text *, struct text *, struct counts *) = {make, read_messages};
-        for (size_t place = 0; place < sizeof runs / sizeof runs[0]; place++) {
-            struct counts of_run = {0, 0, 0};
-            struct text ample = said(runs[place], &trace);
-            total += each(runs[place], &trace, &ample, &of_run);
-            counts.no_memory += of_run.no_memory;
-            counts.lost += of_run.lost;
-            forget(&ample);
-        }
-        must(counts.no_memory > 0 && counts.lost > 0, "something was refused");
+        unsigned long total = played_each_way(&trace, &wanted, &counts);
+        total += run_each(&trace, &counts);
+        other_causes_first(&trace);
         printf("%lu allocations refused: NO_MEMORY %lu, LOST %lu, ticks %lu\n", total, counts.no_memory, counts.lost, counts.ticks);
         forget(&trace);
         forget(&wanted);

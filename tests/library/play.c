@@ -3,11 +3,16 @@
  *     play [--lines] TRACE   each line by soizkadur_line, the first one at a handle that is empty
  *     play --new TRACE       what stands before the first event by soizkadur_new, the events and questions by their own calls
  *     play --calls TRACE     provisioning by its own calls too
+ *     play --late TRACE      the MME starts below the line `mme`, and all others are provisioned while it runs
+ *     play --live TRACE      as --calls, and lines `sub` and `vec` may stand among the events: they are provisioned while it runs,
+ *                            and for each a line `told N` has the number that its call answers
  *
  * TRACE may be "-". Ends with status 1 and `mme: line N: fault M` where a line is wrong, as `mme play` does, and with status 4 for
- * want of memory. --new and --calls are for traces whose lines are right.
+ * want of memory. All ways but --lines are for traces whose lines are right.
  */
 #include "calls.h"
+
+enum way { LINES, NEW, CALLS, LATE, LIVE, WAYS };
 
 static int by_lines(soizkadur_mme *mme, const struct text *trace, struct text *answers)
 {
@@ -29,34 +34,59 @@ static int by_lines(soizkadur_mme *mme, const struct text *trace, struct text *a
     return 0;
 }
 
-static void by_calls(soizkadur_mme *mme, const struct text *trace, struct text *answers, int all_at_once)
+static void start(soizkadur_mme *mme)
+{
+    must(soizkadur_start(mme) == SOIZKADUR_OK && soizkadur_start(mme) == SOIZKADUR_OK, "an MME starts, and one that runs goes on");
+}
+
+/* What stands before the first event or question, and that the MME then runs; answers where that ends. */
+static size_t provision_all(soizkadur_mme *mme, const struct text *trace, enum way way)
 {
     struct span line;
     size_t at = 0, head = 0;
+    int runs = 0;
     while (next_line(trace, &at, &line) && !is_event(line) && !begins(line, "show ")) {
-        must(all_at_once || provisioned(mme, line) == SOIZKADUR_OK, "the line is taken by its call");
+        int is_late = way == LATE && is_further(line);
+        if (is_late && !runs)
+            start(mme);
+        runs = is_late || runs;
+        must(way == NEW || (is_late ? provisioned_live : provisioned)(mme, line) == SOIZKADUR_OK, "the line is taken by its call");
         head = at;
     }
     soizkadur_fault fault = {77, 77};
-    must(!all_at_once || soizkadur_new(mme, (const uint8_t *)trace->at, head, &fault) == SOIZKADUR_OK, "the head is taken");
+    must(way != NEW || soizkadur_new(mme, (const uint8_t *)trace->at, head, &fault) == SOIZKADUR_OK, "the head is taken");
     must(fault.line == 77 && fault.refusal == 77, "a call that is taken writes no fault");
-    must(soizkadur_start(mme) == SOIZKADUR_OK && soizkadur_start(mme) == SOIZKADUR_OK, "an MME starts, and one that runs goes on");
+    start(mme);
     must(soizkadur_replies(mme) == 0, "there is no reply before the first event");
-    for (at = head; next_line(trace, &at, &line);)
-        put_answers(answers, mme, line, is_event(line) ? called(mme, line) : SOIZKADUR_OK);
+    return head;
+}
+
+static void by_calls(soizkadur_mme *mme, const struct text *trace, struct text *answers, enum way way)
+{
+    struct span line;
+    for (size_t at = provision_all(mme, trace, way); next_line(trace, &at, &line);) {
+        if (way == LIVE && is_further(line))
+            print(answers, "told %u\n", (unsigned)provisioned_live(mme, line));
+        else
+            put_answers(answers, mme, line, is_event(line) ? called(mme, line) : SOIZKADUR_OK);
+    }
 }
 
 int main(int count, char **given)
 {
-    must(count == 2 || count == 3, "play [--lines | --new | --calls] TRACE");
-    const char *way = count == 3 ? given[1] : "--lines";
+    static const char *const words[] = {"--lines", "--new", "--calls", "--late", "--live"};
+    must(count == 2 || count == 3, "play [--lines | --new | --calls | --late | --live] TRACE");
+    enum way way = LINES;
+    while (count == 3 && way < WAYS && strcmp(given[1], words[way]) != 0)
+        way++;
+    must(way < WAYS, "a way to play");
     struct text trace = read_all(given[count - 1]), answers = {NULL, 0, 0};
     soizkadur_mme mme = SOIZKADUR_EMPTY;
     int status = 0;
-    if (strcmp(way, "--lines") == 0)
+    if (way == LINES)
         status = by_lines(&mme, &trace, &answers);
     else
-        by_calls(&mme, &trace, &answers, strcmp(way, "--new") == 0);
+        by_calls(&mme, &trace, &answers, way);
     fwrite(answers.at, 1, answers.length, stdout);
     soizkadur_free(&mme);
     soizkadur_free(&mme);

@@ -2,11 +2,17 @@
 
 The lines are those of tests/hostile: random events of phones and stations that lie, each chosen by what the program answered
 before. A session of them is played by the library line by line, and by the calls that the lines stand for, with the states of each
-subscriber after each event. Then come short traces of the session's lines, of which one is spoiled: the program ends at the first
-line that is wrong, with the fault's number; the library has to refuse that line with the same number, and to answer alike before.
+subscriber after each event. Then it is played by calls once more, with subscribers and vectors that come among the events: each
+subscriber before a line names it, each vector before the phone is challenged by it. The program has them in the head of the same
+trace, and must have the same answers and states. At last come short traces of the session's lines, of which one is spoiled: the
+program ends at the first line that is wrong, with the fault's number; the library has to refuse that line with the same number, and
+to answer alike before.
 """
+import bisect
 import collections
 import concurrent.futures
+import functools
+import itertools
 import pathlib
 import random
 import re
@@ -33,6 +39,9 @@ SECONDS = 600  # for one run
 MOST_SHOWN = 3000  # of a difference
 SHOWS = ["show " + imsi for imsi in IMSIS]
 FAULT = re.compile(rb"mme: line \d+: fault (\d)\n")
+TAKEN, TAKEN_ALREADY, NOBODY = 0, 17, 5  # what a line that provisions an MME which runs is answered (soizkadur.h)
+MOST_REFUSED = 8  # such lines of a session
+NEW_IMSI, NEW_ADDRESS = "001010000000888", 0x0A00FFFF  # of nobody
 EACH_FAULT = ["fault %d" % number for number in range(1, 8)]
 
 
@@ -103,6 +112,120 @@ def short_trace(liar, run):
     return lines
 
 
+# --- Subscribers and vectors that come while the MME runs ---
+
+
+def named_at(run, slot):
+    """The places of the events of a session that name a slot, or begin what it takes over later."""
+    return {*run.projection.places[slot], *(began for by, began in run.projection.claims if by == slot)}
+
+
+def with_joining(rng, run):
+    """A session in which no subscriber is named before it joins, and the places at which they do, by slots, which rise: 0 is
+    before the first event. Who isn't named may be once other messages are gone, so it is looked at again."""
+    joins = sorted(rng.choice((0, rng.randint(0, len(run.events) // 3))) for _ in IMSIS)
+    while True:
+        early = {place for slot, join in enumerate(joins) for place in named_at(run, slot) if place < join}
+        if not early:
+            return run, joins
+        kept = [place for place in range(len(run.events)) if place not in early]
+        joins = [bisect.bisect_left(kept, join) for join in joins]
+        run = compare.played(run.names, run.provisioning, IMSIS, [run.events[place] for place in kept], run.used)
+
+
+def asked_at(run, line):
+    """The place of the event by which the phone is challenged by the vector of a line; that of the end where none is."""
+    rand = line.split(" ")[2]
+    return next((place for place, answers in enumerate(run.answers) if any(rand in answer for answer in answers)), len(run.events))
+
+
+class Late:
+    """A session with what is provisioned in it while the MME runs: `lines` by places, each with what it is answered; what comes at
+    place 0 stands in the head, and all else just before the event at its place."""
+
+    def __init__(self, rng, run):
+        self.run, self.joins = with_joining(rng, run)
+        self.lines = collections.defaultdict(list)
+        subs = [line for line in run.provisioning if line.startswith("sub ")]
+        for slot, imsi in enumerate(IMSIS):
+            self.lines[self.joins[slot]].append((subs[slot], TAKEN))
+            self.vectors_of(rng, slot, [line for line in run.provisioning if line.startswith("vec %s " % imsi)])
+        for place in rng.sample(range(1, len(self.run.events)), min(MOST_REFUSED, len(self.run.events) - 1)):
+            self.lines[place].insert(0, self.refused(rng, place, subs))
+
+    def vectors_of(self, rng, slot, lines):
+        """The vectors of a slot come between its joining and their use, in order."""
+        place = self.joins[slot]
+        for line in lines:
+            place = rng.choice((place, rng.randint(place, asked_at(self.run, line))))
+            self.lines[place].append((line, TAKEN))
+
+    def refused(self, rng, place, subs):
+        """A line that is refused before the event at a place, and its number."""
+        there = [slot for slot, join in enumerate(self.joins) if join < place]
+        absent = [IMSIS[slot] for slot, join in enumerate(self.joins) if join >= place] + [NEW_IMSI]
+        vector = rng.choice([line for line in self.run.provisioning if line.startswith("vec ")]).split(" ")
+        wrong = [(" ".join(["vec", rng.choice(absent), *vector[2:]]), NOBODY)]
+        if there:
+            _, imsi, address, *rest = subs[rng.choice(there)].split(" ")
+            wrong.append((" ".join(["sub", imsi, "%08x" % NEW_ADDRESS, *rest]), TAKEN_ALREADY))
+            wrong.append((" ".join(["sub", NEW_IMSI, address, *rest]), TAKEN_ALREADY))
+        return rng.choice(wrong)
+
+    def known(self, place):
+        """The slots of those who have joined after the event at a place."""
+        return [slot for slot, join in enumerate(self.joins) if join <= place]
+
+    def shows(self, place):
+        """The lines that ask for their states."""
+        return [SHOWS[slot] for slot in self.known(place)]
+
+    def owed(self, place):
+        """What is printed for the event at a place and for these lines."""
+        return [*self.run.answers[place], *(self.run.states[place][slot] for slot in self.known(place))]
+
+    def in_head(self):
+        """The lines for the program, and what it has to print."""
+        lines, printed = list(self.run.provisioning), []
+        for place, event in enumerate(self.run.events):
+            lines += [event, *self.shows(place)]
+            printed += self.owed(place)
+        return lines, printed
+
+    def among_events(self):
+        """The lines for the library, and what it has to print."""
+        lines, printed = [self.run.provisioning[0], *(line for line, _ in self.lines[0])], []
+        for place, event in enumerate(self.run.events):
+            live = self.lines[place] if place else []
+            lines += [*(line for line, _ in live), event, *self.shows(place)]
+            printed += [*("told %d" % number for _, number in live), *self.owed(place)]
+        return lines, printed
+
+    def count(self, counts):
+        """Counts what came while the MME ran."""
+        for place, live in self.lines.items():
+            for line, number in live if 0 < place < len(self.run.events) else ():
+                counts["refused late" if number else line[:3] + " late"] += 1
+
+
+def played_late(rng, run, players, counts):
+    """What is wrong with a session whose subscribers and vectors come late, if anything."""
+    late = Late(rng, run)
+    late.count(counts)
+    for play, (lines, printed) in ((players.by_program, late.in_head()),
+                                   (functools.partial(players.by_library, way="--live"), late.among_events())):
+        status, told, said = play([line.encode() for line in lines])
+        if (status, told.decode().splitlines(), said) != (0, printed, b""):
+            return "with lines of provisioning among the events: status %d, %s %s" % (
+                status, said.decode(errors="replace")[-MOST_SHOWN:], first_difference(told.decode().splitlines(), printed))
+    return None
+
+
+def first_difference(got, wanted):
+    pairs = itertools.zip_longest(got, wanted, fillvalue="nothing")
+    return next(("line %d is %.150s, and not %.150s" % (at, *pair) for at, pair in enumerate(pairs, 1) if pair[0] != pair[1]), "")
+
+
 # --- Sessions ---
 
 
@@ -126,6 +249,9 @@ def session(seed, count, players):
     for way in ("--lines", "--calls"):
         if players.by_library(lines, way) != (0, printed, b""):
             return counts, players.told("session %s %s" % (seed, way), lines, way)
+    wrong = played_late(random.Random("%s late" % seed), run, players, counts)
+    if wrong:
+        return counts, "session %s %s" % (seed, wrong)
     liar = Liar(random.Random("%s short" % seed))
     for at in range(SHORT_TRACES):
         lines = short_trace(liar, run)
@@ -162,8 +288,23 @@ def left_out(players):
     return "an event that is left out isn't seen" if players.by_library(lines)[1] == printed else None
 
 
+def too_late(players):
+    """What is wrong where the library is given a vector just after the phone asked for it: nothing, if the comparison sees it."""
+    late = Late(random.Random(SEED), fuzz.lived(SEED, 100, players.mme))
+    vectors = [line for line in late.run.provisioning if line.startswith("vec ")]
+    asked, line = min((asked_at(late.run, line), line) for line in vectors)
+    for live in late.lines.values():
+        live[:] = [one for one in live if one[0] != line]
+    late.lines[asked + 1].append((line, TAKEN))
+    lines, printed = late.among_events()
+    got = players.by_library([line.encode() for line in lines], "--live")[1].decode().splitlines()
+    return "a vector that comes too late isn't seen" if got == printed else None
+
+
 def figures(counts):
     """What the sessions had, in words."""
     faults = ", ".join("%d %s" % (counts[word], word) for word in (*EACH_FAULT, "no fault"))
-    return "random lines: %d events with %d answers and refusals, %d of them refused; %d short traces with a spoiled line: %s" % (
-        counts["events"], counts["answers"], counts["refused"], counts["short traces"], faults)
+    return ("random lines: %d events with %d answers and refusals, %d of them refused; among events %d subscribers, %d vectors, "
+            "and %d of either that were refused; %d short traces with a spoiled line: %s" % (
+                counts["events"], counts["answers"], counts["refused"], counts["sub late"], counts["vec late"],
+                counts["refused late"], counts["short traces"], faults))

@@ -1,7 +1,10 @@
-/* Each call is refused in each way that doesn't take failing memory (tests/library/failing.c) or 2^62 ticks: the number is that of
- * soizkadur.h, and what the handle holds and all that the call would write is as it was. Of several causes the first counts.
+/* Each call is refused in each way that doesn't take failing memory (tests/library/failing.c), 2^62 ticks or as many vectors: the
+ * number is that of soizkadur.h, and what the handle holds and all that the call would write is as it was. Of several causes the
+ * first counts.
+ *
+ *     refusals TRACE ANSWERS    of a phone that attaches as the only one, which it does too while these calls are refused
  */
-#include "answers.h"
+#include "calls.h"
 
 #define MOST_LINE 40000 /* octets of a line */
 
@@ -86,6 +89,8 @@ static void of_an_empty_handle(void)
     REFUSED(NO_MME, soizkadur_add(mme, NOTHING, 1, 2, 3));
     REFUSED(NO_MME, soizkadur_give(mme, NOTHING, NOTHING, NOTHING, NOTHING, NOTHING));
     REFUSED(NO_MME, soizkadur_start(mme));
+    REFUSED(NO_MME, soizkadur_add_live(mme, NOTHING, 1, 2, 3));
+    REFUSED(NO_MME, soizkadur_give_live(mme, NOTHING, NOTHING, NOTHING, NOTHING, NOTHING));
     REFUSED(NO_MME, soizkadur_up(mme, 128));
     REFUSED(NO_MME, soizkadur_lost(mme, 128));
     REFUSED(NO_MME, soizkadur_in(mme, 128, NOTHING));
@@ -234,6 +239,165 @@ static void of_provisioning(void)
     soizkadur_free(mme);
 }
 
+/* ---- provisioning while the MME runs */
+
+#define SUBSCRIBERS 32768
+#define VECTORS 64
+
+static uint32_t adds_live(soizkadur_mme *mme, const char *imsi, uint32_t address)
+{
+    return soizkadur_add_live(mme, TEXT(imsi), address, 0x0a000064, 2);
+}
+
+static uint32_t gives_live(soizkadur_mme *mme, const char *imsi, size_t rand, size_t autn, size_t xres, size_t kasme)
+{
+    return soizkadur_give_live(mme, TEXT(imsi), OCTETS, rand, OCTETS, autn, OCTETS, xres, OCTETS, kasme);
+}
+
+/* The causes that are in the arguments alone: these come first, also where there is no MME. */
+static void arguments_refused(soizkadur_mme *mme)
+{
+    REFUSED(BAD_NUMBER, adds_live(mme, "0010100000001", 1)); /* 13 digits */
+    REFUSED(BAD_NUMBER, adds_live(mme, "0010100000000001", 1)); /* and 16 */
+    REFUSED(BAD_NUMBER, adds_live(mme, "00101000000000a", 1));
+    REFUSED(BAD_NUMBER, adds_live(mme, " 001010000000001", 1));
+    REFUSED(BAD_NUMBER, soizkadur_add_live(mme, NOTHING, 1, 2, 3));
+    REFUSED(BAD_NUMBER, gives_live(mme, "0010100000001", 15, 15, 3, 31));
+    REFUSED(BAD_NUMBER, gives_live(mme, "00101000000000a", 16, 16, 8, 32));
+    REFUSED(BAD_OCTETS, gives_live(mme, NOBODY, 15, 16, 8, 32));
+    REFUSED(BAD_OCTETS, gives_live(mme, IMSI, 17, 16, 8, 32));
+    REFUSED(BAD_OCTETS, gives_live(mme, IMSI, 16, 15, 8, 32));
+    REFUSED(BAD_OCTETS, gives_live(mme, IMSI, 16, 17, 8, 32));
+    REFUSED(BAD_OCTETS, gives_live(mme, IMSI, 16, 16, 3, 32));
+    REFUSED(BAD_OCTETS, gives_live(mme, IMSI, 16, 16, 17, 32));
+    REFUSED(BAD_OCTETS, gives_live(mme, IMSI, 16, 16, 8, 31));
+    REFUSED(BAD_OCTETS, gives_live(mme, IMSI, 16, 16, 8, 33));
+}
+
+static void of_an_mme_that_does_not_run(void)
+{
+    soizkadur_mme empty = SOIZKADUR_EMPTY, *mme = &empty;
+    TAKEN(line(mme, "# a handle that holds something, of which nothing is provisioned"));
+    arguments_refused(mme);
+    REFUSED(NO_MME, adds_live(mme, IMSI, 1));
+    REFUSED(NO_MME, gives_live(mme, IMSI, 16, 16, 8, 32));
+    TAKEN(new_of(mme, 3, "internet", 1, 1));
+    TAKEN(soizkadur_add(mme, TEXT(IMSI), 1, 2, 3));
+    arguments_refused(mme);
+    REFUSED(NO_MME, adds_live(mme, OTHER, 2)); /* it isn't started */
+    REFUSED(NO_MME, adds_live(mme, IMSI, 1));
+    REFUSED(NO_MME, gives_live(mme, IMSI, 16, 16, 8, 32));
+    REFUSED(NO_MME, gives_live(mme, NOBODY, 16, 16, 8, 32));
+    TAKEN(soizkadur_start(mme));
+    arguments_refused(mme);
+    REFUSED(PROVISION, adds_live(mme, OTHER, 1)); /* IMSI has the address */
+    REFUSED(PROVISION, adds_live(mme, IMSI, 2));
+    REFUSED(UNKNOWN_IMSI, gives_live(mme, OTHER, 16, 16, 8, 32));
+    TAKEN(adds_live(mme, OTHER, 2));
+    TAKEN(gives_live(mme, OTHER, 16, 16, 4, 32));
+    REFUSED(ORDER, soizkadur_add(mme, TEXT(NOBODY), 3, 2, 3)); /* still */
+    REFUSED(ORDER, gives(mme, OTHER, 16, 16, 8, 32));
+    soizkadur_free(mme);
+}
+
+/* What is done before each event and question of a trace, of which so many stood before it. */
+typedef void (*before_each)(soizkadur_mme *mme, unsigned events);
+
+/* Plays a trace by calls, provisioned while the MME runs as its head says and then by `more`: it has its answers. */
+static void attaches_so(const struct text *trace, const struct text *wanted, void (*more)(soizkadur_mme *), before_each act)
+{
+    soizkadur_mme mme = SOIZKADUR_EMPTY;
+    struct text answers = {NULL, 0, 0};
+    struct span line;
+    unsigned events = 0;
+    for (size_t at = 0; next_line(trace, &at, &line);) {
+        if (begins(line, "mme ")) {
+            TAKEN(provisioned(&mme, line));
+            TAKEN(soizkadur_start(&mme));
+        } else if (is_further(line)) {
+            TAKEN(provisioned_live(&mme, line));
+        } else if (!begins(line, "#")) {
+            if (events == 0)
+                more(&mme);
+            act(&mme, events);
+            put_answers(&answers, &mme, line, is_event(line) ? called(&mme, line) : SOIZKADUR_OK);
+            events += (unsigned)is_event(line);
+        }
+    }
+    act(&mme, events);
+    must(is_same(&answers, wanted), "the phone attaches beside what is refused");
+    soizkadur_free(&mme);
+    forget(&answers);
+}
+
+static void no_more(soizkadur_mme *mme)
+{
+    (void)mme;
+}
+
+/* What is refused of an MME that has IMSI at 10.0.0.1, and neither of the others. */
+static void each_refused(soizkadur_mme *mme, unsigned events)
+{
+    (void)events;
+    arguments_refused(mme);
+    REFUSED(PROVISION, adds_live(mme, IMSI, 0x0a000002));
+    REFUSED(PROVISION, adds_live(mme, OTHER, 0x0a000001));
+    REFUSED(PROVISION, adds_live(mme, IMSI, 0x0a000001));
+    REFUSED(UNKNOWN_IMSI, gives_live(mme, NOBODY, 16, 16, 8, 32));
+}
+
+static void fill_vectors(soizkadur_mme *mme)
+{
+    for (int count = 1; count < VECTORS; count++)
+        TAKEN(gives_live(mme, IMSI, 16, 16, 4 + (size_t)count % 13, 32));
+}
+
+/* The 65th that isn't spent is refused, until the fourth event, AUTHENTICATION RESPONSE, has spent one. */
+static void vector_65_refused(soizkadur_mme *mme, unsigned events)
+{
+    static int is_there;
+    if (events == 4 && !is_there) {
+        TAKEN(gives_live(mme, IMSI, 16, 16, 16, 32));
+        is_there = 1;
+    }
+    REFUSED(PROVISION, gives_live(mme, IMSI, 16, 16, 8, 32));
+    REFUSED(BAD_OCTETS, gives_live(mme, IMSI, 16, 16, 8, 31));
+    REFUSED(UNKNOWN_IMSI, gives_live(mme, OTHER, 16, 16, 8, 32));
+}
+
+static void fill_slots(soizkadur_mme *mme)
+{
+    char imsi[16];
+    uint32_t slot = 77;
+    for (unsigned number = 101; number < 100 + SUBSCRIBERS; number++) {
+        snprintf(imsi, sizeof imsi, "00101%010u", number);
+        TAKEN(adds_live(mme, imsi, 0x0a010000 + number));
+    }
+    TAKEN(soizkadur_slot_of_imsi(mme, TEXT(imsi), &slot));
+    AS_IT_WAS(slot == SUBSCRIBERS - 1);
+    TAKEN(gives_live(mme, imsi, 16, 16, 8, 32));
+}
+
+static void subscriber_32769_refused(soizkadur_mme *mme, unsigned events)
+{
+    (void)events;
+    REFUSED(PROVISION, adds_live(mme, OTHER, 0x0a000002));
+    REFUSED(PROVISION, adds_live(mme, IMSI, 0x0a000001));
+    REFUSED(UNKNOWN_IMSI, gives_live(mme, OTHER, 16, 16, 8, 32));
+}
+
+static void of_an_mme_that_runs(const char *path_of_trace, const char *path_of_answers)
+{
+    struct text trace = read_all(path_of_trace), wanted = read_all(path_of_answers);
+    attaches_so(&trace, &wanted, no_more, each_refused);
+    attaches_so(&trace, &wanted, fill_vectors, vector_65_refused);
+    attaches_so(&trace, &wanted, fill_slots, subscriber_32769_refused);
+    forget(&trace);
+    forget(&wanted);
+}
+
+/* ---- events, replies and questions */
+
 static void of_events(void)
 {
     soizkadur_mme empty = SOIZKADUR_EMPTY, *mme = &empty;
@@ -342,9 +506,10 @@ static void of_keys(void)
     AS_IT_WAS(mac == 7);
 }
 
-int main(void)
+int main(int count, char **given)
 {
     soizkadur_release release = {777777, 777777, 777777};
+    must(count == 3, "refusals TRACE ANSWERS");
     soizkadur_version(&release);
     AS_IT_WAS(release.major != 777777 && release.minor != 777777 && release.patch != 777777);
     printf("version %u.%u.%u\n", (unsigned)release.major, (unsigned)release.minor, (unsigned)release.patch);
@@ -353,6 +518,8 @@ int main(void)
     of_lines();
     of_a_whole_trace();
     of_provisioning();
+    of_an_mme_that_does_not_run();
+    of_an_mme_that_runs(given[1], given[2]);
     of_events();
     of_replies_and_questions();
     of_codecs();

@@ -6,6 +6,7 @@ phones that fail is docs/TABLE.md: none of it is the library's own output.
 """
 import contextlib
 import copy
+import functools
 import pathlib
 import pickle
 import random
@@ -23,7 +24,7 @@ ROWS, PARTS = TOP / "tests" / "rows", TOP / "tests" / "parts"
 sys.path[:0] = [str(TOP / "python"), str(PARTS)]
 import soizkadur
 from soizkadur import Direction, EcmState, EmmMessage, EmmState, EsmState, Mme, Owner, Refusal, Refused, S1apKind, States
-from soizkadur.standards import FailingPhone, OutOfPlace, Sim, carried_nas, lte, phones
+from soizkadur.standards import FailingPhone, OutOfPlace, Sim, Vector, carried_nas, lte, phones
 from soizkadur.testing import Laboratory, Unexpected, laboratory
 
 rows_of = runpy.run_path(str(PARTS / "run"))["rows_of"]
@@ -104,15 +105,43 @@ def row(path):
 
 
 HEAD = [line for line in (ROWS / "attach_whole.trace").read_text().splitlines() if line.split(" ")[0] in ("mme", "sub", "vec")]
+VECTOR = [octets(word) for word in HEAD[2].split(" ")[2:]]
 EVENTS = [line.split(" ") for line in (ROWS / "attach_whole.trace").read_text().splitlines() if line.startswith(("up ", "in "))]
 ANSWERS = (ROWS / "attach_whole.answers").read_text().splitlines()
 OWED = [line for line in ANSWERS if line.startswith("out ")]
 
 
-@test_of_each([("text", "\n".join(HEAD)), ("octets", "\n".join(HEAD).encode()), ("lines", HEAD), ("one by one", None)])
-def events_by_calls(head):
+def by_calls():
+    """The row's head by calls."""
+    mme = begun()
+    mme.add(IMSI, 0x0A000001, 0x0A000064, 1)
+    mme.give(IMSI, *VECTOR)
+    mme.start()
+    mme.start()
+    return mme
+
+
+def while_it_runs():
+    """The row's head by calls, of which all but the first come while the MME runs."""
+    mme = begun()
+    mme.start()
+    mme.add_live(IMSI, 0x0A000001, 0x0A000064, 1)
+    mme.give_live(IMSI, *VECTOR)
+    return mme
+
+
+def begun():
+    """An Mme with nobody provisioned, before it is started."""
+    mme = Mme()
+    mme.provision(bytes.fromhex("00f110"), 0x8001, 0x01, "internet", 10**9, 10**9)
+    return mme
+
+
+@test_of_each([("text", lambda: Mme.from_lines("\n".join(HEAD))), ("octets", lambda: Mme.from_lines("\n".join(HEAD).encode())),
+               ("lines", lambda: Mme.from_lines(HEAD)), ("one by one", by_calls), ("while it runs", while_it_runs)])
+def events_by_calls(made):
     """The row of a whole attach, by the calls of an Mme, of provisioning in each of its forms."""
-    with provisioned() if head is None else Mme.from_lines(head) as mme:
+    with made() as mme:
         told = []
         for word, station, *more in EVENTS:
             told += mme.up(int(station)) if word == "up" else mme.receive(int(station), octets(more[0]))
@@ -121,17 +150,6 @@ def events_by_calls(head):
         must_be(mme.states(IMSI), States(EmmState.REGISTERED, EcmState.IDLE, EsmState.ACTIVE))
         must_be(str(mme.states(IMSI)), ANSWERS[-1].split(" ", 2)[2])
         must_be(mme.slot(IMSI), 0)
-
-
-def provisioned():
-    """The row's head by calls."""
-    mme = Mme()
-    mme.provision(bytes.fromhex("00f110"), 0x8001, 0x01, "internet", 10**9, 10**9)
-    mme.add(IMSI, 0x0A000001, 0x0A000064, 1)
-    mme.give(IMSI, *map(octets, HEAD[2].split(" ")[2:]))
-    mme.start()
-    mme.start()
-    return mme
 
 
 @test
@@ -160,6 +178,11 @@ def ticks_have_a_reply_each():
     ("line", ("in 0 0",), Refusal.BAD_OCTETS), ("add", (IMSI, 1, 2, 3), Refusal.ORDER),
     ("add", (IMSI, 2**32, 2, 3), Refusal.BAD_NUMBER),
     ("give", (IMSI, b"", b"", b"", b""), Refusal.BAD_OCTETS),
+    ("add_live", ("1", 2, 3, 4), Refusal.BAD_NUMBER), ("add_live", (IMSI, 2**32, 3, 4), Refusal.BAD_NUMBER),
+    ("add_live", (IMSI, 2, 3, 4), Refusal.PROVISION), ("add_live", ("001010000000002", 0x0A000001, 3, 4), Refusal.PROVISION),
+    ("give_live", ("1", bytes(15), bytes(16), bytes(8), bytes(32)), Refusal.BAD_NUMBER),
+    ("give_live", ("001010000000009", bytes(16), bytes(16), bytes(17), bytes(32)), Refusal.BAD_OCTETS),
+    ("give_live", ("001010000000009", bytes(16), bytes(16), bytes(8), bytes(32)), Refusal.UNKNOWN_IMSI),
     ("provision", (b"", 1, 1, "a", 1, 1), Refusal.BAD_OCTETS), ("provision", (bytes(3), 2**16, 1, "a", 1, 1), Refusal.BAD_NUMBER))])
 def refused(told):
     """A call that is refused says why, and the MME and its last replies are as they were."""
@@ -170,6 +193,23 @@ def refused(told):
         before = mme.replies(), mme.states(IMSI)
         must_be(answer(getattr(mme, word), *given), wanted)
         must_be((mme.replies(), mme.states(IMSI)), before)
+
+
+@test
+def what_is_given_before_the_mme_runs():
+    """The calls for an MME that runs are refused before it does, and those for one that doesn't afterwards."""
+    with Mme() as mme:
+        must_be(answer(mme.add_live, IMSI, 1, 2, 3), Refusal.NO_MME)
+    with begun() as mme:
+        must_be(answer(mme.add_live, IMSI, 1, 2, 3), Refusal.NO_MME)
+        must_be(answer(mme.give_live, IMSI, *VECTOR), Refusal.NO_MME)
+        must_be(answer(mme.give_live, IMSI, b"", *VECTOR[1:]), Refusal.BAD_OCTETS)
+        mme.start()
+        must_be((answer(mme.add, IMSI, 1, 2, 3), answer(mme.give, IMSI, *VECTOR)), (Refusal.ORDER, Refusal.ORDER))
+        mme.add_live(IMSI, 1, 2, 3)
+        for _ in range(64):
+            mme.give_live(IMSI, *VECTOR)
+        must_be(answer(mme.give_live, IMSI, *VECTOR), Refusal.PROVISION)
 
 
 @test
@@ -523,6 +563,71 @@ def data_for_a_phone_that_is_not_paged():
     phone = FailingPhone(phones.Trace(), 0, [])
     phone.has_data_waiting([])
     must_be((phone.trace.lines, phone.trace.answers), (["data " + phone.imsi], []))
+
+
+@test
+def a_phone_that_attaches_200_times():
+    """Vectors are given as it goes, now and then several; in between it is out of step, and at last it has none."""
+    with Laboratory(phones=1, vectors=1) as here:
+        phone, station = here.phones[0], here.station
+
+        def is_given():
+            vector = Vector.made("further %d" % len(phone.vectors))
+            here.mme.give_live(phone.imsi, vector.rand, vector.autn, vector.xres, vector.kasme)
+            phone.vectors.append(vector)
+
+        for turn in range(200):
+            if not phone.unused:
+                is_given()
+            challenged(phone, station)
+            if turn % 7 == 0:
+                is_given()
+                phone.is_out_of_step()
+            phone.authenticates()
+            for _ in range(3 if turn % 50 == 0 else 0):
+                is_given()
+            for step in phone.completes_security, phone.context_is_set_up, phone.completes_attach, phone.is_released:
+                step()
+        while phone.unused:
+            phone.attaches(station, 1)
+            phone.is_released()
+        must_be((here.states(phone).emm, len(phone.vectors) > 200), (EmmState.REGISTERED, True))
+        phone.asks_without_vector(station, 1)
+        must_be(here.states(phone), DEREGISTERED)
+
+
+@test
+def a_phone_that_joins():
+    """A subscriber who comes while another attaches has the next slot, and attaches once there is a vector; until then it is a
+    stranger."""
+    with Laboratory(phones=1) as here:
+        first = here.phones[0]
+        other = FailingPhone(here.trace, 1, [Vector.made("other")])
+        challenged(first, here.station)
+        other.asks_as_nobody(here.station, 2, other.imsi)
+        number = functools.partial(int.from_bytes, byteorder="big")
+        here.mme.add_live(other.imsi, number(other.address), number(other.gateway), number(other.teid))
+        must_be((here.mme.slot(other.imsi), here.mme.slot(first.imsi)), (1, 0))
+        first.authenticates()
+        vector = other.vectors[0]
+        here.mme.give_live(other.imsi, vector.rand, vector.autn, vector.xres, vector.kasme)
+        other.attaches(here.station, 2)
+        first.completes_security()
+        first.context_is_set_up()
+        first.completes_attach()
+        must_be((here.states(first), here.states(other)), (REGISTERED, REGISTERED))
+
+
+@test
+def how_the_documents_provision():
+    """Under "Provision while it runs" in docs/LIBRARY.md, what is to be run runs."""
+    text = (TOP / "docs" / "LIBRARY.md").read_text(encoding="utf-8")
+    part = re.search(r"\n## Provision while it runs\n(.*?)\n## ", text, re.S)[1]
+    blocks = [block for block in re.findall(r"(?:    .*\n|\n(?=    ))+", part) if "with Laboratory" in block]
+    must_be(len(blocks), 1)
+    names = {}
+    exec(textwrap.dedent(blocks[0]), names)
+    must_be(len(names["phone"].vectors), 100)
 
 
 @test

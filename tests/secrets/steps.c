@@ -1,6 +1,8 @@
-/* Plays traces by the library with the secrets of each vector hidden: XRES and KASME, where soizkadur_give is handed them.
+/* Plays traces by the library with the secrets of each vector hidden: XRES and KASME, where soizkadur_give or soizkadur_give_live
+ * is handed them.
  *
- *     steps TRACE ANSWERS ..    with soizkadur_give and soizkadur_out wrapped by the linker
+ *     steps TRACE ANSWERS ..           with soizkadur_give, soizkadur_give_live and soizkadur_out wrapped by the linker
+ *     steps --live TRACE ANSWERS ..    the same, with each vector given while the MME runs
  *
  * Each trace is played by the calls that its lines stand for, and must have its answers; its lines are right ones. What the MME
  * sends is told where soizkadur_out copies it, since it goes to the wire; before that, only MACs of 4 octets and radio keys of 32
@@ -21,12 +23,21 @@ static struct {
 /* The most errors at one event of a trace. */
 static unsigned long most;
 
+/* Whether vectors are given once the MME runs. */
+static int vectors_wait;
+
 uint32_t __real_soizkadur_give(soizkadur_mme *mme, const uint8_t *imsi, size_t imsi_length, const uint8_t *rand,
                                size_t rand_length, const uint8_t *autn, size_t autn_length, const uint8_t *xres,
                                size_t xres_length, const uint8_t *kasme, size_t kasme_length);
 uint32_t __wrap_soizkadur_give(soizkadur_mme *mme, const uint8_t *imsi, size_t imsi_length, const uint8_t *rand,
                                size_t rand_length, const uint8_t *autn, size_t autn_length, const uint8_t *xres,
                                size_t xres_length, const uint8_t *kasme, size_t kasme_length);
+uint32_t __real_soizkadur_give_live(soizkadur_mme *mme, const uint8_t *imsi, size_t imsi_length, const uint8_t *rand,
+                                    size_t rand_length, const uint8_t *autn, size_t autn_length, const uint8_t *xres,
+                                    size_t xres_length, const uint8_t *kasme, size_t kasme_length);
+uint32_t __wrap_soizkadur_give_live(soizkadur_mme *mme, const uint8_t *imsi, size_t imsi_length, const uint8_t *rand,
+                                    size_t rand_length, const uint8_t *autn, size_t autn_length, const uint8_t *xres,
+                                    size_t xres_length, const uint8_t *kasme, size_t kasme_length);
 uint32_t __real_soizkadur_out(soizkadur_mme *mme, size_t reply, size_t index, soizkadur_output *output, uint8_t *buffer,
                               size_t room);
 uint32_t __wrap_soizkadur_out(soizkadur_mme *mme, size_t reply, size_t index, soizkadur_output *output, uint8_t *buffer,
@@ -40,6 +51,16 @@ uint32_t __wrap_soizkadur_give(soizkadur_mme *mme, const uint8_t *imsi, size_t i
     hide(kasme, kasme_length);
     return __real_soizkadur_give(mme, imsi, imsi_length, rand, rand_length, autn, autn_length, xres, xres_length, kasme,
                                  kasme_length);
+}
+
+uint32_t __wrap_soizkadur_give_live(soizkadur_mme *mme, const uint8_t *imsi, size_t imsi_length, const uint8_t *rand,
+                                    size_t rand_length, const uint8_t *autn, size_t autn_length, const uint8_t *xres,
+                                    size_t xres_length, const uint8_t *kasme, size_t kasme_length)
+{
+    hide(xres, xres_length);
+    hide(kasme, kasme_length);
+    return __real_soizkadur_give_live(mme, imsi, imsi_length, rand, rand_length, autn, autn_length, xres, xres_length, kasme,
+                                      kasme_length);
 }
 
 /* A MAC stands after the first octet of a protected NAS message (TS 24.301 clause 9.1). */
@@ -83,11 +104,20 @@ uint32_t __wrap_soizkadur_out(soizkadur_mme *mme, size_t reply, size_t index, so
     return refusal;
 }
 
+/* Starts the MME, and gives it each vector of a trace that waits for that. */
+static void start(soizkadur_mme *mme, const struct text *trace)
+{
+    struct span line;
+    must(soizkadur_start(mme) == SOIZKADUR_OK, "the MME is started");
+    for (size_t at = 0; vectors_wait && next_line(trace, &at, &line);)
+        must(!begins(line, "vec ") || provisioned_live(mme, line) == SOIZKADUR_OK, "the vector is taken");
+}
+
 /* The call that a line stands for: of provisioning, or of an event, whose errors count. */
 static uint32_t done(soizkadur_mme *mme, struct span line)
 {
     if (!is_event(line))
-        return provisioned(mme, line);
+        return vectors_wait && begins(line, "vec ") ? SOIZKADUR_OK : provisioned(mme, line);
     unsigned long before = found();
     uint32_t refusal = called(mme, line);
     unsigned long more = found() - before;
@@ -100,10 +130,12 @@ static void play(const struct text *trace, struct text *answers)
 {
     soizkadur_mme mme = SOIZKADUR_EMPTY;
     struct span line;
-    size_t at = 0;
-    while (next_line(trace, &at, &line)) {
-        if (is_event(line) || begins(line, "show "))
-            must(soizkadur_start(&mme) == SOIZKADUR_OK, "the MME is started");
+    int runs = 0;
+    for (size_t at = 0; next_line(trace, &at, &line);) {
+        int starts = !runs && (is_event(line) || begins(line, "show "));
+        if (starts)
+            start(&mme, trace);
+        runs = runs || starts;
         put_answers(answers, &mme, line, done(&mme, line));
     }
     soizkadur_free(&mme);
@@ -123,8 +155,9 @@ static void tried(const char *path, const char *path_of_answers)
 int main(int count, char **given)
 {
     must_be_watched();
-    must(count % 2 == 1, "each trace with its answers");
-    for (int at = 1; at < count; at += 2)
+    vectors_wait = count > 1 && strcmp(given[1], "--live") == 0;
+    must((count - vectors_wait) % 2 == 1, "each trace with its answers");
+    for (int at = 1 + vectors_wait; at < count; at += 2)
         tried(given[at], given[at + 1]);
     return 0;
 }

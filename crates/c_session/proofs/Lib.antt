@@ -2,3 +2,4 @@ pub mod Heard
 pub mod Labels
 pub mod Left
 pub mod Parting
+pub mod Places

@@ -1,5 +1,7 @@
 -- The numbers of refusals, and which refusal a fault of the MME or of a trace is.
 use Rattle.std.specs.Prelude.{ℕ, Result, Ok, Err}
+use Rattle.identity_slots.specs.declared.provision.ProvisionFault.{ProvisionFault}
+use Rattle.identity_slots.specs.declared.provision.ProvisionFault.TheVariants as provision
 use Rattle.mme_core.specs.declared.event.StepFault.{StepFault}
 use Rattle.mme_core.specs.declared.event.StepFault.TheVariants as step
 use Rattle.trace_words.specs.declared.fault.TraceFault.{TraceFault}
@@ -36,6 +38,13 @@ of_step step.AlreadyUp = AlreadyUp
 of_step step.ClockSpent = ClockSpent
 of_step step.NoMemory = NoMemory
 of_step step.UnknownImsi = UnknownImsi
+
+-- the refusal of a subscriber or a vector, by an MME that runs
+abbrev pub of_provision : ProvisionFault → Refusal
+of_provision provision.RepeatedImsi = Provision
+of_provision provision.RepeatedAddress = Provision
+of_provision provision.Full = Provision
+of_provision provision.NoMemory = NoMemory
 
 -- the refusal of a line or an argument
 abbrev pub of_line : TraceFault → Refusal

@@ -5,6 +5,7 @@
 mod arguments;
 mod line;
 mod lines;
+mod live;
 mod refusal;
 mod replies;
 mod session;

@@ -1,8 +1,9 @@
 //! Why a call is refused.
 
 ghost use Rattle.std.specs.Prelude.{◌≡◌};
-ghost use Rattle.c_session.specs.Refusals.{number_of, of_line, of_play, of_step, told, told_of_start};
+ghost use Rattle.c_session.specs.Refusals.{number_of, of_line, of_play, of_provision, of_step, told, told_of_start};
 
+use identity_slots::ProvisionFault;
 use mme_core::StepFault;
 use trace_progress::PlayFault;
 use trace_words::TraceFault;
@@ -65,6 +66,18 @@ pub(crate) fn of_step(fault: StepFault) -> Refusal
         StepFault::ClockSpent => Refusal::ClockSpent,
         StepFault::NoMemory => Refusal::NoMemory,
         StepFault::UnknownImsi => Refusal::UnknownImsi,
+    }
+}
+
+/// The refusal of a subscriber or a vector with that fault, by an MME that runs.
+pub(crate) fn of_provision(fault: ProvisionFault) -> Refusal
+    ensures { result ≡ of_provision fault }
+{
+    match fault {
+        ProvisionFault::RepeatedImsi | ProvisionFault::RepeatedAddress | ProvisionFault::Full => {
+            Refusal::Provision
+        }
+        ProvisionFault::NoMemory => Refusal::NoMemory,
     }
 }
 

@@ -7,6 +7,7 @@
 mod codecs;
 mod events;
 mod handle;
+mod live;
 mod loose;
 mod numbers;
 mod provisioning;
@@ -22,6 +23,7 @@ pub use events::{
     soizkadur_up,
 };
 pub use handle::{MmeHandle, Opaque};
+pub use live::{soizkadur_add_live, soizkadur_give_live};
 pub use provisioning::{
     LineFault, soizkadur_add, soizkadur_free, soizkadur_give, soizkadur_new,
     soizkadur_provision_new, soizkadur_start,
