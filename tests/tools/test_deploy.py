@@ -25,8 +25,10 @@ from fronted import HEAD, IMSI, STAND_IN, Running
 sys.path.insert(0, str(tools.TOP / "tools"))
 import runs
 from fronting import command, faults, limits
+from tunnels import command as gateway_command, limits as gateway_limits
 del sys.path[0]
 UNIT, CONTAINER, README = (tools.TOP / "deploy" / name for name in ("soizkadur@.service", "Containerfile", "README.md"))
+GATEWAY = tools.TOP / "deploy" / "soizkadur-gateway@.service"
 PACKAGE = tools.TOP / "deploy" / "package"
 INSTALLED = "/opt/soizkadur/"
 BUILT = "crates/mme/out/mme"
@@ -34,12 +36,17 @@ LOG_FILES = {"trace", "trace.counts", "trace.used", "trace.lock"}
 MIB = 1 << 20
 
 
-def analyzed(*words):
-    """What systemd-analyze says of the unit, with the front of this checkout in it."""
+def analyzed(*words, path=UNIT):
+    """What systemd-analyze says of a unit, with the tools of this checkout in it."""
     with tempfile.TemporaryDirectory() as folder:
-        unit = pathlib.Path(folder, UNIT.name)
-        unit.write_text(UNIT.read_text().replace(INSTALLED + "tools", str(tools.TOP / "tools")))
+        unit = pathlib.Path(folder, path.name)
+        unit.write_text(path.read_text().replace(INSTALLED + "tools", str(tools.TOP / "tools")))
         return subprocess.run(["systemd-analyze", *words, unit], capture_output=True, timeout=60, check=False)
+
+
+def lines_of(path):
+    """The lines of a unit by their words; of several with a word the last."""
+    return dict(re.findall(r"^(\w+)=(.*)$", path.read_text(), re.MULTILINE))
 
 
 def front_words(**values):
@@ -196,6 +203,46 @@ class Unit(unittest.TestCase):
             self.assertEqual({path.name for path in pathlib.Path(place).glob("trace*")}, LOG_FILES)
             played = subprocess.run([folder + "/mme", "play", log], capture_output=True, timeout=60, check=False)
             self.assertEqual(played.stdout, done.stdout * (count + 1))
+
+
+class Gateway(unittest.TestCase):
+    """The unit of the gateway."""
+
+    @unittest.skipUnless(shutil.which("systemd-analyze"), "no systemd-analyze")
+    def test_verify(self):
+        done = analyzed("verify", path=GATEWAY)
+        self.assertEqual((done.returncode, done.stdout, done.stderr), (0, b"", b""))
+
+    @unittest.skipUnless(shutil.which("systemd-analyze"), "no systemd-analyze")
+    def test_rights(self):
+        """An exposure of 2 of 10 at the most: it has the network and one right more than the front."""
+        done = analyzed("security", "--offline=yes", "--threshold=20", "--no-pager", path=GATEWAY)
+        if b"unrecognized option" in done.stderr:
+            self.skipTest("a systemd-analyze before version 250")
+        self.assertEqual(done.returncode, 0, done.stdout.decode()[-400:])
+        lines = lines_of(GATEWAY)
+        self.assertEqual((lines["CapabilityBoundingSet"], lines["AmbientCapabilities"]), 2 * ("CAP_NET_ADMIN",))
+
+    def test_words(self):
+        """The gateway takes them; it asks at the socket of the front's unit, whose user it has."""
+        lines, front = lines_of(GATEWAY), lines_of(UNIT)
+        words = lines["ExecStart"].replace("$WORDS", "--page 127.0.0.1:0").replace("${ADDRESS}", "192.0.2.1")
+        program, *words = words.replace("${PREFIX}", "10.45.0.0/16").replace("%t", "/run").replace("%i", "01").split(" ")
+        self.assertEqual(program, INSTALLED + "tools/gateway")
+        given = gateway_command.parser("").parse_args(words)
+        self.assertEqual(given.words, ["/run/soizkadur/01/control", "192.0.2.1", "10.45.0.0/16"])
+        _, *asked = front_words(runtime="/run", state="/var/lib", address="192.0.2.1", words="")
+        self.assertEqual(command.parser("").parse_args(asked).control, given.words[0])
+        self.assertEqual((lines["User"], lines["DynamicUser"]), (front["User"], front["DynamicUser"]))
+        self.assertEqual(lines["InaccessiblePaths"].split(" "), ["-/var/lib/private/soizkadur", "-/etc/soizkadur"])
+
+    def test_limits(self):
+        """There is room for the sockets that it keeps, and for their files."""
+        lines = lines_of(GATEWAY)
+        self.assertGreater(int(lines["FileDescriptorStoreMax"]), gateway_limits.MOST_STATIONS + 2)
+        self.assertGreater(int(lines["LimitNOFILE"]), 2 * gateway_limits.MOST_STATIONS + limits.MOST_BROWSING)
+        self.assertEqual((lines["Restart"], lines["RestartPreventExitStatus"], lines["StartLimitIntervalSec"]),
+                         ("on-failure", str(faults.WRONG), "0"))
 
 
 class Package(unittest.TestCase):

@@ -1,9 +1,11 @@
 """The commands of docs/LAB.md, in their order, by the names of the package: in a clone, and with the files of the package laid out.
 In the program's place stands what bench/phones.py says that an MME owes; those of the live station and of the package need the
-program, and are tried where it is built."""
+program, and are tried where it is built. Those by which a phone gets to the Internet are tried under a kernel of their own
+(gateway_inside.py), and here those of nftables."""
 import contextlib
 import pathlib
 import re
+import shutil
 import socket
 import subprocess
 import sys
@@ -22,6 +24,7 @@ del sys.path[0]
 DOCUMENT, QUESTIONS = (tools.TOP / "docs" / name for name in ("LAB.md", "QUESTIONS.md"))
 PLAY, SIM = "mme play $lab/lab.trace", "mme sim $lab/station.script"
 LIVE = re.compile("^## 8. A live station\n.*?(?=^## )", re.MULTILINE | re.DOTALL)
+INTERNET = re.compile("^## 9. A phone gets to the Internet\n.*?(?=^## )", re.MULTILINE | re.DOTALL)
 ENDED = "### After it has ended\n"
 # Waits until the live station was sent so many messages: 5 and, where data came for the phone, its page.
 HAS_HEARD = "until [ $(cat $lab/station.got 2>/dev/null | wc -l) -ge %d ]; do sleep 0.1; done"
@@ -72,6 +75,11 @@ def blocks(text):
     return ["\n".join(line[4:] for line in block.strip("\n").split("\n")) for block in found]
 
 
+def without_stations():
+    """The document without the parts that need a live station."""
+    return INTERNET.sub("", LIVE.sub("", DOCUMENT.read_text(encoding="utf-8")))
+
+
 def answered(text):
     """The commands of docs/QUESTIONS.md, each block with what is shown as printed by it, where `..` is left out."""
     found = []
@@ -105,7 +113,7 @@ def free_port():
 
 class Lab(unittest.TestCase):
     def test_commands(self):
-        found = blocks(LIVE.sub("", DOCUMENT.read_text(encoding="utf-8")))
+        found = blocks(without_stations())
         [chart] = [block for block in found if block.startswith("P1: ")]
         commands = "\n".join(block for block in found if block != chart)
         self.assertEqual((commands.count(PLAY), commands.count(SIM)), (1, 1))
@@ -130,7 +138,7 @@ class Lab(unittest.TestCase):
     @unittest.skipUnless(PROGRAM.exists(), "the program isn't built (./mme --prove)")
     def test_with_the_package(self):
         """The same commands with the package, in a folder where nothing of a clone is, and without the lines for a clone."""
-        found = without_names(blocks(LIVE.sub("", DOCUMENT.read_text(encoding="utf-8"))))
+        found = without_names(blocks(without_stations()))
         [chart] = [block for block in found if block.startswith("P1: ")]
         with in_package() as (root, lab, elsewhere):
             commands = "\n".join(block for block in found if block != chart).replace("lab=$(mktemp -d)", "lab=%s" % lab)
@@ -181,6 +189,16 @@ class Lab(unittest.TestCase):
         for (command, shown), got in zip(asked, printed):
             with self.subTest(command=command):
                 self.assertRegex(got.strip(), "^%s$" % ".*".join(map(re.escape, shown.strip().split(".."))))
+
+    @unittest.skipUnless(shutil.which("nft"), "no nftables")
+    def test_nftables(self):
+        """It takes the lines that translate the phones' addresses, in a network of its own, and has them then."""
+        [block] = [block for block in blocks(INTERNET.search(DOCUMENT.read_text(encoding="utf-8"))[0]) if "nft -f" in block]
+        commands = block.replace("sudo ", "") + "\nnft list ruleset"
+        done = subprocess.run(["unshare", "-rn", "bash", "-euc", commands], capture_output=True, text=True, timeout=60, check=False)
+        self.assertEqual((done.returncode, done.stderr), (0, ""))
+        for part in ("table ip lab", 'ip saddr 10.45.0.0/16 oifname != "mme-*" masquerade', "tcp option maxseg size set rt mtu"):
+            self.assertIn(part, done.stdout)
 
     def check_live(self, printed, lab):
         """What the commands of the live station print and leave in their folder."""

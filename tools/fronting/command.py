@@ -26,7 +26,8 @@ from fronting.segments import whole_series
 from fronting.used import LOG_END, UsedVectors
 
 S1AP_PORT = 36412  # TS 36.412 clause 7
-OF_PHONE, OF_FILE, OF_FRONT, OF_BOTH = ("data", "cancel", "show"), ("give",), ("stations", "phones", "counters"), ("health",)
+OF_PHONE, OF_FILE = ("data", "cancel", "show", "tunnel"), ("give",)
+OF_FRONT, OF_BOTH = ("stations", "phones", "counters"), ("health",)
 NAME = re.compile(r"(?=.{1,253}$)[a-z0-9_-]{1,63}(\.[a-z0-9_-]{1,63})*", re.IGNORECASE)  # of a machine
 
 
@@ -127,7 +128,7 @@ def ask(given):
         print(table(word, json.loads(rest)), end="")
     else:
         print(versions.visible((rest if word in OF_FRONT else answer).removesuffix("\n")))
-    return 0 if word.strip() in ("taken", "state", "given", "serves", *OF_FRONT) else 1
+    return 0 if word.strip() in ("taken", "state", "tunnel", "given", "serves", *OF_FRONT) else 1
 
 
 # --- A log without keys ---
@@ -272,7 +273,7 @@ def parser(description):
     asking = ways.add_parser("ask", help="ask a front that runs", **form)
     asking.add_argument("control", metavar="CONTROL", help="its control socket")
     asking.add_argument("word", metavar="WORD", choices=sorted((*OF_PHONE, *OF_FILE, *OF_FRONT, *OF_BOTH)),
-                        help="data, cancel or show, with an IMSI; give with a FILE; stations, phones, counters or health")
+                        help="data, cancel, show or tunnel, with an IMSI; give with a FILE; stations, phones, counters or health")
     asking.add_argument("more", metavar="IMSI|FILE", nargs="*")
     asking.add_argument("--json", action="store_true", help="print stations, phones and counters as JSON")
     asking.add_argument("--wait", type=seconds, default=0.0, metavar="SECONDS", help="wait for a front that is still starting")

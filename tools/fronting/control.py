@@ -1,12 +1,14 @@
 """The control socket: its lines and their answers."""
 import json
+import weakref
 
 import runs
 
 from fronting import limits, status
 from fronting.guests import Door
 
-WORDS = {"data": 1, "cancel": 1, "show": 1, "give": 1, "stations": 0, "phones": 0, "counters": 0, "health": 0}
+WORDS = {"data": 1, "cancel": 1, "show": 1, "give": 1, "stations": 0, "phones": 0, "counters": 0, "health": 0, "bearers": 0,
+         "tunnel": 1, "release": 3}
 NOBODY = "refused %d: %s" % (runs.UNKNOWN_IMSI, runs.REFUSALS[runs.UNKNOWN_IMSI])
 
 
@@ -15,7 +17,7 @@ class Control:
 
     def __init__(self, front, listener):
         self.front = front
-        self.busy = set()  # guests whose line isn't answered yet
+        self.busy = weakref.WeakSet()  # guests whose line isn't answered yet, and those that follow the tunnels
         self.door = Door(front.loop, listener, limits.MOST_ASKING, limits.LONGEST_GIVEN + limits.LONGEST_ASKED,
                          limits.ASKING_SECONDS, self.take)
 
@@ -60,6 +62,10 @@ class Control:
                 self.tell_mme(word, runs.imsi_of(fields[0]), reply)
             elif word == "give":
                 self.give(text, reply)
+            elif word == "bearers":
+                self.front.followers.follow(guest)
+            elif word in ("tunnel", "release"):
+                reply(self.of_tunnel(word, *fields))
             elif word == "health":
                 self.front.exchange.ask([], None, lambda: reply("serves"))
             elif word == "phones":
@@ -81,6 +87,15 @@ class Control:
             self.front.exchange.shows.append(lambda answer: reply("state %s %s" % (answer.imsi, answer.states)))
         else:
             self.front.exchange.when_kept(lambda: reply("taken"))
+
+    def of_tunnel(self, word, imsi, *end):
+        """Tells of a phone's tunnel, or has it be released where it leads to this end."""
+        slot = self.front.head.slots.get(runs.imsi_of(imsi))
+        if slot is None:
+            return NOBODY
+        if word == "tunnel":
+            return "tunnel %s" % self.front.followers.words(slot)
+        return self.front.followers.release(slot, *end)
 
     def give(self, text, reply):
         """Further subscribers and vectors."""

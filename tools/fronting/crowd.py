@@ -9,7 +9,7 @@ import time
 
 import runs
 
-from fronting import limits
+from fronting import bearers, limits
 from fronting.associations import BEGIN_ONE, ERRORS, RESETS, is_silent
 from fronting.faults import told
 from fronting.meters import SETUP_REQUEST, UPLINK
@@ -20,7 +20,8 @@ EVENTS = select.EPOLLIN | select.EPOLLOUT | select.EPOLLRDHUP | select.EPOLLET
 ENDING = select.EPOLLRDHUP | select.EPOLLHUP | select.EPOLLERR
 GONE = select.EPOLLIN | ENDING
 OF_ASSOCIATIONS = {RESETS, ERRORS, *BEGIN_ONE}
-LOOKED_AT = OF_ASSOCIATIONS | {UPLINK[1:], SETUP_REQUEST[1:]}  # the second octets of messages of which more is noted
+# The second octets of messages of which more is noted.
+LOOKED_AT = OF_ASSOCIATIONS | {kind[1:] for kind in (UPLINK, SETUP_REQUEST, *bearers.OF_STATION)}
 
 
 def host_of(text):
@@ -172,6 +173,8 @@ class Crowd:
     def look_at(self, station, octets, line):
         """Notes what a message says of its station and of phones; its line, which may be another one then."""
         kind = octets[:2]
+        if kind in bearers.OF_STATION:
+            self.exchange.batch.said.append((station.number, octets))
         if kind == UPLINK:
             line = heard_plain(station.number, octets) or line
             self.attaches.hear(station.number, octets, line)
@@ -190,6 +193,14 @@ class Crowd:
             batch.note_still(line, True)
         elif octets[1:2] == RESETS:
             batch.note_reset(station.number, station.associations.is_reset_of_nobody(octets, len(self.exchange.imsis)), line)
+
+    def speak_for(self, number, octets, why):
+        """A station is heard to say something that it didn't, with a comment in the log on who did; whether it is there."""
+        station = self.stations.get(number)
+        if station is not None:
+            self.exchange.put("# " + why)
+            self.hear([(station, [octets])])
+        return station is not None
 
     def settle(self, station):
         """What becomes of a station that had its turn; whether it goes on."""
@@ -250,7 +261,7 @@ class Crowd:
             del self.addresses[station.address]
         del self.stations[number]
         self.exchange.receivers[b"%d" % number] = None
-        self.exchange.put("lost %d" % number)
+        self.exchange.lose(number)
 
     def begin_anew(self, station):
         """The other side of an association has begun anew: the station is lost and comes again."""
@@ -269,7 +280,7 @@ class Crowd:
     def lose_all(self):
         """Each station is lost; its connection stays until the last answers are sent."""
         for number in sorted(self.stations):
-            self.exchange.put("lost %d" % number)
+            self.exchange.lose(number)
 
     def close(self):
         for station in self.stations.values():

@@ -15,7 +15,7 @@ import time
 
 import runs
 
-from fronting import limits
+from fronting import bearers, limits
 from fronting.challenges import AUTHENTICATION_REQUEST_DIGITS, challenged
 from fronting.faults import BABBLES, Ended, Failed, LOG_FAILS, SILENT, told
 from fronting.journal import Batch
@@ -29,7 +29,7 @@ NO_OCTETS = b"-"
 NUMBERS = {b"%d" % number: number for number in range(runs.STATIONS)}
 # How messages begin of which more is noted than that they go out; by one of the first two the MME may say that nothing changed.
 OF_NO_CHANGE = {ERROR_INDICATION, RESET_ACKNOWLEDGE}
-LOOKED_AT = OF_NO_CHANGE | {SETUP_RESPONSE, DOWNLINK, CONTEXT_REQUEST}
+LOOKED_AT = OF_NO_CHANGE | {SETUP_RESPONSE, DOWNLINK, CONTEXT_REQUEST} | bearers.OF_MME
 END, REFUSE, GO_ON = "end", "refuse", "go-on"  # what is done on a full disk
 
 
@@ -50,6 +50,7 @@ class Exchange:
         self.note_challenge = lambda slot, rand: None  # who is told of each challenge, those that were sent before among them
         self.note_context = lambda slot, station, octets: None  # who is told of each INITIAL CONTEXT SETUP REQUEST of a phone
         self.follow = lambda batch: None  # who is told of each batch that the MME is given
+        self.note_settled = lambda batch: None  # who is told of each batch that is answered and kept
         self.dirty, self.rest, self.heard_at = set(), b"", 0.0
         self.has_answered, self.held_since = False, None
         self.is_replaying = False  # whether answers are those that were given before
@@ -75,6 +76,11 @@ class Exchange:
     def put(self, line, station=None):
         """A line for the MME, and the station that it is a message of."""
         self.batch.add(line, station)
+
+    def lose(self, number):
+        """A station is lost."""
+        self.put("lost %d" % number)
+        self.batch.lost.append(number)
 
     def part(self, after=None):
         """Ends the batch; `after` is called once all before it is answered."""
@@ -436,9 +442,9 @@ class Exchange:
             slot, number, receiver, octets, _ = message
             if octets[:2] not in LOOKED_AT:
                 continue
+            self.note(batch, slot, NUMBERS[number], receiver, octets)
             rand = challenged(octets) if slot is not None else None
             if rand is None:
-                self.note(batch, slot, NUMBERS[number], receiver, octets)
                 continue
             self.note_challenge(slot, rand)
             if not challenges:
@@ -454,6 +460,8 @@ class Exchange:
     def note(self, batch, slot, number, receiver, octets):
         """Notes what a message says of the batch that it answers, of the station that it is for, and of a phone."""
         kind = octets[:2]
+        if kind in bearers.OF_MME:
+            batch.sent.append((slot, number, octets))
         if kind in OF_NO_CHANGE:
             batch.note_answer(number, kind == RESET_ACKNOWLEDGE)
         elif kind == SETUP_RESPONSE and receiver is not None:
@@ -519,6 +527,7 @@ class Exchange:
             self.meters.count_answers(time.monotonic() - batch.given, batch.answers)
         if self.journal is not None and batch.place is not None:
             self.journal.settle(batch)
+        self.note_settled(batch)
 
     def check_answers(self, now, seconds):
         """Ends the front where the MME owes an answer for too long."""

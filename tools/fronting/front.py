@@ -14,6 +14,7 @@ from fronting.control import Control
 from fronting.crowd import Crowd
 from fronting.exchange import Exchange
 from fronting.faults import BABBLES, LOG_FAILS, SILENT, WRONG, Ended, Failed, told
+from fronting.followers import Followers
 from fronting.giving import Giving
 from fronting.journal import Journal
 from fronting.keys import YES, Missing, form_of
@@ -46,7 +47,7 @@ class Front:
         self.settings, self.head, self.voice, self.used = settings, head, voice, used
         self.loop, self.manager = Loop(), Manager(os.environ)
         self.meters = Meters(keeps_messages=settings.page is not None)
-        self.exchange = self.crowd = self.control = self.page = self.giving = self.stock = self.teller = None
+        self.exchange = self.crowd = self.control = self.page = self.giving = self.stock = self.teller = self.followers = None
         self.aside, self.census, self.attaches, self.soundness = Aside(self), Census(self), Attaches(self), Soundness(self)
         self.is_over, self.is_busy = False, False
         self.resumed, self.given = 0, 0
@@ -265,6 +266,8 @@ class Front:
         if self.resumed:
             self.crowd.used = set(range(runs.STATIONS))
         self.exchange.note_context = self.attaches.accept
+        self.followers = Followers(self)
+        self.exchange.note_settled = self.followers.bearers.take
         self.crowd.listen(listener, link)
         self.control = Control(self, control)
         if page is not None:
@@ -417,6 +420,8 @@ class Front:
             failed = fault
         try:
             status = self.stop()
+            if failed is None and not status and self.followers is not None:
+                self.followers.end()
         finally:
             self.close()
         if failed is not None:

@@ -219,6 +219,7 @@ class Giving:
         before, front.head, exchange.mark, exchange.imsis = exchange.program, self.head, self.mark, self.head.imsis
         exchange.adopt(self.new)
         front.stock.lengthen(self.head)
+        front.followers.lengthen()
         for slot, rand in self.comparison.challenges.items():
             front.stock.note(slot, rand)
         before.close()

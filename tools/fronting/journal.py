@@ -56,10 +56,12 @@ class Batch:
     lines of messages that are known to change nothing, `moving` those of messages like them that may, and `logged` what the log has
     of each line, where that isn't the line. `asked` has by a line whose states the MME is asked for right after it, `turn` is the
     number of its turn, 0 for what stood in the log before, `octets` are those of messages alone, `before` is how many lines of the
-    log stand before it, where that is known, and `whole` the lines as octets, once they were wanted."""
+    log stand before it, where that is known, and `whole` the lines as octets, once they were wanted. `said`, `sent` and `lost` have
+    what of it says where tunnels end (bearers.py): messages of stations, answers, and stations that were lost."""
 
     __slots__ = ("lines", "logged", "owners", "heard", "idle", "nobodys", "meant", "associations", "still", "moving", "asked",
-                 "given", "after", "place", "time", "answers", "has_ticks", "turn", "octets", "before", "whole")
+                 "given", "after", "place", "time", "answers", "has_ticks", "turn", "octets", "before", "whole", "said", "sent",
+                 "lost")
 
     def __init__(self):
         self.lines, self.logged, self.owners, self.heard, self.idle, self.has_ticks = [], None, [], {}, {}, False
@@ -68,6 +70,7 @@ class Batch:
         self.given, self.after, self.place, self.time, self.answers = 0.0, [], None, None, 0
         self.turn = self.octets = 0
         self.before = self.whole = None
+        self.said, self.sent, self.lost = [], [], []
 
     def add(self, line, station=None):
         """A line, and the station that it is a message of."""

@@ -41,6 +41,7 @@ ASKING_SECONDS = 60  # for one of them to say a whole line, and to read its answ
 GIVING_SECONDS = 120  # for the second MME to play the log
 HOLD_SECONDS = 5  # that the stations wait while it plays the rest
 MOST_TOLD = 1 << 24  # octets that wait for one who asks, here or for the page, to read
+MOST_FOLLOWED = 1 << 22  # octets of tunnels that wait for a follower to read; beyond them it is cut off
 MOST_BROWSING, BROWSING_SECONDS, LONGEST_REQUEST = 32, 10, 8192  # connections for metrics and the page, each one's time and octets
 GUEST_RATE = 100  # connections a second of those who ask, at the control socket and for the page each
 ASIDE_SECONDS, ASIDE_REST = 0.005, 0.001  # after which a piece of work is done though messages wait, and until it is tried again

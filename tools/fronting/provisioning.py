@@ -7,11 +7,12 @@ from fronting.faults import Failed, WRONG
 
 
 class Head:
-    """The lines before the first event, the IMSIs and addresses by slot, and the words of the line `mme`."""
+    """The lines before the first event, the lines `sub`, IMSIs and addresses by slot, and the words of the line `mme`."""
 
     def __init__(self, lines):
         self.lines = lines
-        subscribers = [line.split(" ") for line in lines if line.startswith("sub ")]
+        self.subscribers = [line for line in lines if line.startswith("sub ")]
+        subscribers = [line.split(" ") for line in self.subscribers]
         self.imsis, self.addresses = [words[1] for words in subscribers], [words[2] for words in subscribers]  # by slot
         self.slots = {imsi: slot for slot, imsi in enumerate(self.imsis)}
         self.mme = next(line for line in lines if line.startswith("mme ")).split(" ")
