@@ -51,5 +51,5 @@ _mme_tool() {
 }
 
 complete -F _mme mme ./mme
-complete -F _mme_tool mme-vectors mme-show mme-explain mme-chart mme-capture mme-front mme-gateway
-complete -F _mme_tool tools/vectors tools/show tools/explain tools/chart tools/capture tools/front tools/gateway
+complete -F _mme_tool mme-vectors mme-s6a mme-show mme-explain mme-chart mme-capture mme-front mme-gateway
+complete -F _mme_tool tools/vectors tools/s6a tools/show tools/explain tools/chart tools/capture tools/front tools/gateway

@@ -1,12 +1,19 @@
 """tools/vectors: AES by FIPS 197, HMAC by RFC 4231, Milenage by the six test sets of TS 35.207, KASME by the derivation
 written a second time in bench/lte.py."""
+import hashlib
+import hmac
+import importlib
+import os
 import pathlib
+import subprocess
+import sys
 import tempfile
 import unittest
 
 import tools
 
 VECTORS = tools.module("tools/vectors")
+CIPHERS, MILENAGE = (importlib.import_module(name) for name in ("eps.ciphers", "sourcing.milenage"))
 LTE = tools.module("bench/lte.py")
 
 SET_FIELDS = "k rand sqn amf op opc f1 f1_star f2 f5 f3 f4 f5_star".split()
@@ -64,16 +71,16 @@ class Parts(unittest.TestCase):
                 ("2b7e151628aed2a6abf7158809cf4f3c", "3243f6a8885a308d313198a2e0370734", "3925841d02dc09fbdc118597196a0b32"),
                 ("000102030405060708090a0b0c0d0e0f", "00112233445566778899aabbccddeeff", "69c4e0d86a7b0430d8cdb78070b4c55a")):
             with self.subTest(key=key):
-                self.assertEqual(VECTORS.aes(bytes.fromhex(key), bytes.fromhex(plain)).hex(), cipher)
+                self.assertEqual(MILENAGE.aes(bytes.fromhex(key), bytes.fromhex(plain)).hex(), cipher)
 
     def test_round_keys(self):
         """FIPS 197 appendix A.1: the last round's key."""
-        keys = VECTORS.ciphers.round_keys(bytes.fromhex("2b7e151628aed2a6abf7158809cf4f3c"))
+        keys = CIPHERS.round_keys(bytes.fromhex("2b7e151628aed2a6abf7158809cf4f3c"))
         self.assertEqual("%032x" % keys[10], "d014f9a8" "c9ee2589" "e13f0cc8" "b6630ca6")
 
     def test_cmac(self):
         """RFC 4493 clause 4, examples 1 to 4."""
-        cmac = VECTORS.ciphers.Cmac(bytes.fromhex("2b7e151628aed2a6abf7158809cf4f3c"))
+        cmac = CIPHERS.Cmac(bytes.fromhex("2b7e151628aed2a6abf7158809cf4f3c"))
         text = bytes.fromhex("6bc1bee22e409f96e93d7e117393172aae2d8a571e03ac9c9eb76fac45af8e51"
                              "30c81c46a35ce411e5fbc1191a0a52eff69f2445df4f9b17ad2b417be66c3710")
         for size, mac in ((0, "bb1d6929e95937287fa37d129b756746"), (16, "070a16b46b4d4144f79bdd9dd04a287c"),
@@ -83,11 +90,11 @@ class Parts(unittest.TestCase):
 
     def test_hmac(self):
         """HMAC by RFC 4231 clause 4.3, and the derivation on it by the second one."""
-        digest = VECTORS.hmac.new(b"Jefe", b"what do ya want for nothing?", VECTORS.hashlib.sha256).hexdigest()
+        digest = hmac.new(b"Jefe", b"what do ya want for nothing?", hashlib.sha256).hexdigest()
         self.assertEqual(digest, "5bdcc146bf60754e6a042426089575c75a003f089d2739839dec58b964ec3843")
         parameters = bytes.fromhex("00f110"), bytes.fromhex("55f328b43577")
         key = bytes(range(32))
-        self.assertEqual(VECTORS.derived(key, 0x10, *parameters), LTE.derived(key, 0x10, *parameters))
+        self.assertEqual(CIPHERS.derived(key, 0x10, *parameters), LTE.derived(key, 0x10, *parameters))
 
     def test_milenage(self):
         for number, given in enumerate(test_sets(), 1):
@@ -207,6 +214,26 @@ class Lines(unittest.TestCase):
         done = tools.ran("vectors", *SIM, "--sqn", "000000000020", "--amf", "7fff")
         self.assertEqual(done.returncode, 0)
         self.assertIn(b"separation bit", done.stderr)
+
+
+class Library(unittest.TestCase):
+    def test_sim(self):
+        """The SIM of soizkadur.standards takes its functions from tools/vectors: it answers a vector, refuses it a second time with
+        AUTS, and its home goes on after that."""
+        program = """if True:
+            from soizkadur.standards.sim import Sim
+            sim = Sim(bytes.fromhex("%s"), bytes.fromhex("%s"), sqn=1 << 20)
+            first = sim.vector()
+            sim.home = 0
+            again = sim.answer(first.rand, first.autn), sim.answer(first.rand, first.autn)
+            sim.resynchronises(first.rand, again[1].auts)
+            later = sim.vector()
+            assert (again[0].res, again[1].cause, sim.answer(later.rand, later.autn).res) == (first.xres, 21, later.xres)
+            assert sim.answer(later.rand, later.autn[:-1] + bytes([later.autn[-1] ^ 1])).cause == 20
+        """ % (FIRST["k"].hex(), FIRST["opc"].hex())
+        done = subprocess.run([sys.executable, "-B", "-c", program], capture_output=True, text=True, timeout=60, check=False,
+                              env={**os.environ, "PYTHONPATH": str(tools.TOP / "python")})
+        self.assertEqual((done.returncode, done.stderr), (0, ""))
 
 
 class Lists(unittest.TestCase):

@@ -1,0 +1,49 @@
+"""Files that are their owner's alone."""
+import os
+
+from sourcing.words import Fault
+
+OF_OTHERS = 0o077  # the bits of a mode that let others in
+MODE = 0o600
+ROOT = 0  # root's number
+
+
+def check(file, path):
+    """Refuses a file that others than its owner may open, or that is somebody else's."""
+    found = os.fstat(file)
+    if found.st_mode & OF_OTHERS:
+        raise Fault("%s: others than its owner may open it (mode %03o): chmod %03o makes it its owner's alone" % (
+            path, found.st_mode & 0o777, MODE))
+    if found.st_uid not in (ROOT, os.geteuid()):
+        raise Fault("%s: it is another user's" % path)
+
+
+def opened(path):
+    """A file that is its owner's alone, open for reading."""
+    try:
+        file = open(path, "rb")
+    except OSError as fault:
+        raise Fault("%s: %s" % (path, fault.strerror)) from None
+    try:
+        check(file.fileno(), path)
+    except BaseException:
+        file.close()
+        raise
+    return file
+
+
+def make(path):
+    """Makes a file that is its owner's alone, where there is none; one that is there has to be. Its name is on disk then."""
+    try:
+        file = os.open(path, os.O_RDWR | os.O_CREAT | os.O_CLOEXEC, MODE)
+        try:
+            check(file, path)
+        finally:
+            os.close(file)
+        folder = os.open(os.path.dirname(path) or ".", os.O_RDONLY | os.O_DIRECTORY | os.O_CLOEXEC)
+        try:
+            os.fsync(folder)
+        finally:
+            os.close(folder)
+    except OSError as fault:
+        raise Fault("%s: %s" % (path, fault.strerror)) from None
