@@ -19,7 +19,7 @@ import progress
 import s1ap
 import versions
 from causes import nas_cause
-from eps import messages, quick
+from eps import holes, messages, quick
 
 LONGEST_LINE = 40000  # octets
 STATIONS = 128
@@ -65,8 +65,8 @@ class Step:
 
     __slots__ = ("event", "second", "answers")
 
-    def __init__(self, event, second):
-        self.event, self.second, self.answers = event, second, []
+    def __init__(self, event, second, answers=()):
+        self.event, self.second, self.answers = event, second, list(answers)
 
 
 @functools.lru_cache(1)
@@ -99,6 +99,9 @@ def station_of(text):
     return number(text, 0, STATIONS - 1)
 
 
+STATION_WORDS = {b"%d" % station: station for station in range(STATIONS)}  # as stations are usually written
+
+
 def octets_of(text):
     if text == "-":
         return b""
@@ -128,6 +131,17 @@ def event_of(line, word, fields):
     return Event(line, word, imsi=imsi_of(fields[0]))
 
 
+def usual_event(line, text):
+    """The event of a line `in` that is written as usual, of which a trace has most; nothing of any other."""
+    try:
+        word, station, octets = text.split(b" ")
+        if word == b"in" and octets:
+            return Event(line, "in", STATION_WORDS[station], binascii.unhexlify(octets))
+    except (ValueError, KeyError):
+        pass
+    return None
+
+
 def event_text(event):
     """An event as a line of a trace."""
     if event.word == "in":
@@ -152,13 +166,13 @@ COMMENT = ord("#")  # how a line begins that is one
 def lines_of(octets, name, read, comments=False):
     """Reads each line that isn't empty, of those that are comments or of those that aren't; a fault gets the line's number."""
     lines, line = octets.split(b"\n"), 0
+    are_long = max(map(len, lines)) > LONGEST_LINE
     try:
         for line, text in enumerate(progress.over("reads line", lines, len(lines)), 1):
-            if text:
-                if len(text) > LONGEST_LINE:
-                    raise Fault("longer than %d octets" % LONGEST_LINE)
-                if (text[0] == COMMENT) == comments:
-                    read(line, text)
+            if are_long and len(text) > LONGEST_LINE:
+                raise Fault("longer than %d octets" % LONGEST_LINE)
+            if text and (text[0] == COMMENT) == comments:
+                read(line, text)
     except Fault as fault:
         raise Fault("%s: line %d: %s" % (name, line, fault)) from None
 
@@ -185,6 +199,10 @@ def read_trace(octets, name="trace"):
 
     def read(line, text):
         nonlocal is_begun
+        event = usual_event(line, text) if events else None
+        if event:
+            events.append(event)
+            return
         word, fields = fields_of(text, WORDS)
         if (word == "mme") == is_begun:
             raise Fault("the line mme stands first, and once")
@@ -220,6 +238,18 @@ OWNER = re.compile(r"e\d{1,3}|x\d{1,3}\.\d{1,8}|s\d{1,5}")
 TOLD = re.compile(rb"# (?=out [esx]\d|refused \d|state \d)")
 
 
+def usual_answer(text, owners):
+    """The answer of a line `out` that is written as usual, for one of these owners, by what stands for them; nothing of any
+    other."""
+    try:
+        word, owner, station, octets = text.split(b" ")
+        if word == b"out" and octets:
+            return Answer("out", owners[owner], STATION_WORDS[station], binascii.unhexlify(octets))
+    except (ValueError, KeyError):
+        pass
+    return None
+
+
 def answer_of(text):
     """An answer by its line."""
     word, fields = fields_of(text, ANSWERS)
@@ -239,8 +269,17 @@ def sent(owner, station, octets):
 
 def read_answers(octets, name="answers"):
     """What `mme play` printed."""
-    answers = []
-    lines_of(octets, name, lambda _, text: answers.append(answer_of(text)))
+    answers, owners = [], {}
+
+    def read(_, text):
+        answer = usual_answer(text, owners)
+        if answer is None:
+            answer = answer_of(text)
+            if answer.owner:
+                owners[answer.owner.encode()] = answer.owner
+        answers.append(answer)
+
+    lines_of(octets, name, read)
     return answers
 
 
@@ -350,7 +389,7 @@ class Kept:
         found = s1ap.spans(octets)
         self.has_mme_id, self.has_enb_id = made.mme_id is not None, made.enb_id is not None
         self.type, self.inside, self.identity, self.tmsi, self.common = nas and nas.type, None, made.identity, None, made[OWN:]
-        span = quick.nas_span(octets, found)
+        span = holes.nas_span(octets, found)
         if span and self.type in s1ap.IDENTITY_PLACES:
             self.inside = slice(span[1] - len(nas.octets), span[1])
         if made.tmsi is not None:
@@ -386,9 +425,9 @@ def met(octets):
     made = Content(*own, s1ap.name(message), message.code, (message.code, message.outcome), message.fault, cause,
                    nas and Inner(nas.type, nas.name), s1ap.listed(message), "; ".join(filter(None, said)),
                    bool(message.fault) or fails)
-    holes = quick.holes_of(messages.decode(octets), None)
-    if holes is not None:
-        SHAPES.keep(octets, quick.Shape(octets, holes, Kept(octets, made, nas)))
+    free = quick.holes_of(messages.decode(octets), None)
+    if free is not None:
+        SHAPES.keep(octets, quick.Shape(octets, free, Kept(octets, made, nas)))
     return made
 
 

@@ -23,8 +23,8 @@ sys.path.insert(0, str(tools.TOP / "tools"))
 RUNS = importlib.import_module("runs")
 STORY = importlib.import_module("eps.story")
 MESSAGES = importlib.import_module("eps.messages")
-NAS, MACS, CIPHERS = (importlib.import_module("eps." + name) for name in ("nas", "macs", "ciphers"))
-WORLD = importlib.import_module("eps.world")
+NAS, MACS, CIPHERS, TELLING = (importlib.import_module("eps." + name) for name in ("nas", "macs", "ciphers", "telling"))
+QUICK, WORLD, WRITING = (importlib.import_module("eps." + name) for name in ("quick", "world", "writing"))
 SKIPPING = importlib.import_module("eps.scripts")
 REASONS = importlib.import_module("eps.reasons")
 GIVING = importlib.import_module("fronting.giving")
@@ -86,12 +86,13 @@ def strays(trace, answers):
 
 
 def unseen(expected, answer, rng):
-    """Those of some bits of an answer that may be turned without a difference."""
+    """Those of some bits of an answer that may be turned without a difference, or so that it is taken for what is expected."""
     found = []
     for place in rng.sample(range(8 * len(answer.octets)), TURNED):
         octets = bytearray(answer.octets)
         octets[place // 8] ^= 128 >> place % 8
-        if not list(expected.differences(answer.owner, answer.station, bytes(octets))):
+        sent = answer.owner, answer.station, bytes(octets)
+        if not list(expected.differences(*sent)) or expected.is_sent(*sent, MACS.is_right):
             found.append(place)
     return found
 
@@ -274,6 +275,33 @@ def attached_and_released(count):
     return trace
 
 
+def days(count, network, first, capability):
+    """A trace of so many phones of a network and a capability, and of a station that counts their connections from the first: each
+    attaches, is released, updates its area from idle, is served and detaches, half of them with a combined attach and update."""
+    trace, station = failures.phones.Trace(network), failures.phones.Station(0)
+    made = [failures.phones.Phone(trace, slot, [failures.phones.Vector.made("%d" % slot)], capability) for slot in range(count)]
+    trace.provision(made)
+    trace.set_up(station)
+    for phone in made:
+        b, combined = first + phone.slot, phone.slot % 2
+        phone.attaches(station, b, pdn_type=1 + 2 * combined, attach_type=1 + combined, information=bool(combined))
+        phone.is_released()
+        phone.updates_from_idle(station, b, combined)
+        phone.completes_update(from_idle=True)
+        phone.asks_for_service(station, b)
+        phone.context_is_set_up()
+        phone.detaches()
+    return trace
+
+
+def calls_of(act, *named):
+    """How often each of these, by its module and its name, is called in an act that succeeds."""
+    with contextlib.ExitStack() as patches:
+        calls = [patches.enter_context(mock.patch.object(module, name, wraps=getattr(module, name))) for module, name in named]
+        assert act() is not None
+        return [call.call_count for call in calls]
+
+
 def resets_of_nobody(count):
     """A trace of so many phones that don't come, and as often a RESET of an association that nobody has."""
     trace, station = failures.phones.Trace(), failures.phones.Station(0)
@@ -319,14 +347,34 @@ class Speed(unittest.TestCase):
         for count in (150, 600):
             made = attached_and_released(count)
             trace, answers = RUNS.read_trace(made.text().encode()), RUNS.read_answers(made.answer_text().encode())
-            with contextlib.ExitStack() as patches:
-                calls = [patches.enter_context(mock.patch.object(module, name, wraps=getattr(module, name))) for module, name in (
-                    (CIPHERS, "aes"), (MESSAGES, "decode_whole"), (MESSAGES, "frame_met"), (NAS, "read_emm"), (NAS, "read_esm"))]
-                self.assertIsNotNone(STORY.exact_run(trace, answers))
-                counts.append([call.call_count for call in calls])
+            counts.append(calls_of(lambda: STORY.exact_run(trace, answers), (CIPHERS, "aes"), (MESSAGES, "decode_whole"), (
+                MESSAGES, "frame_met"), (NAS, "read_emm"), (NAS, "read_esm")))
             self.assertGreater(len(trace.events) + len(answers), 10 * count)
         self.assertEqual([counts[1][0], counts[1][1]], [0, 0])
         self.assertLess(sum(counts[1]), 100)
+
+    def test_each_message_is_read_once(self):
+        """What a station sends is read once, and an answer is compared as it is: so for any network, address, id and capability."""
+        for network, first, capability in (
+                (failures.phones.Network(), 1, b"\xe0\x60"),
+                (failures.phones.Network("999", "123", "fffe", "80", "a" * 63), 250, b"\xf0\xf0"),
+                (failures.phones.Network("208", "93", "0000", "ff", "i", (1, 10**10)), (1 << 24) - 20, b"\xe0\xe0\xc0\x40\x01")):
+            with self.subTest(network=network.words):
+                made = days(20, network, first, capability)
+                trace, answers = RUNS.read_trace(made.text().encode()), RUNS.read_answers(made.answer_text().encode())
+                self.assertIsNotNone(STORY.exact_run(trace, answers))  # what has no writer is read the first time
+                heard = sum(event.word == "in" for event in trace.events)
+                read, decoded = calls_of(lambda: STORY.exact_run(trace, answers), (MESSAGES, "decode"), (NAS, "decode_emm"))
+                self.assertEqual(read, heard + 1)  # with S1 SETUP RESPONSE
+                self.assertLessEqual(decoded, heard)
+
+    def test_nothing_for_later(self):
+        """In brief no event is kept of which there is nothing to tell, nor what each was; and no key is made that isn't sent."""
+        made = attached_and_released(20)
+        trace, answers = RUNS.read_trace(made.text().encode()), RUNS.read_answers(made.answer_text().encode())
+        counts = calls_of(lambda: STORY.exact_run(trace, answers, STORY.Extent.REASONS), (RUNS, "Step"), (STORY, "Answered"), (
+            TELLING, "Telling"), (CIPHERS, "next_hop"))
+        self.assertEqual(counts, [0, 0, 0, 0])
 
     def test_beside_reading(self):
         """A run is told in a few times what it takes to read its lines."""
@@ -395,6 +443,32 @@ class Usual(unittest.TestCase):
                         self.assertEqual(all_of(MESSAGES.decode(octets)), all_of(MESSAGES.decode_whole(octets)), octets.hex())
         self.assertGreater(len(known), 100)
 
+    def test_holes(self):
+        """The same where the holes of its shape have anything in them, by a seed."""
+        rng, frames = random.Random(95), 0
+        for _, trace, answers in runs_of_rows():
+            for each in trace.events + answers:
+                found = each.octets and MESSAGES.FRAMES.find(each.octets)
+                for hole in found[0].holes if found else ():
+                    frames += 1
+                    octets = with_hole_filled(each.octets, hole, rng)
+                    self.assertEqual(all_of(MESSAGES.decode(octets)), all_of(MESSAGES.decode_whole(octets)), octets.hex())
+        self.assertGreater(frames, 1000)
+
+    def test_lines(self):
+        """A line that is written as usual is read as any other: of the rows, and with something else in it."""
+        line = b"in 0 0011001f000003003b00080000f11000000010004000070000004000f1100089400140"
+        others = [line + b" ", line + b"0", line[:-1], line.upper(), line.replace(b" 0 ", b" 00 "), line.replace(b" 0 ", b" 128 "),
+                  line.replace(b" 0 ", b"  "), line.replace(b"00", b"0 "), b"in 0 -", b"in 0 ", b"in 0", b"in", b"up 0", b"in 0 zz",
+                  b"in 127 0A0b", b"in 0 \xff\xff"]
+        for each in [line, *others]:
+            with self.subTest(line=each):
+                self.assertEqual(read_or_refused(b"mme 001 01 8001 01 internet 1 1\nup 0\n" + each, RUNS.read_trace),
+                                 read_or_refused(b"mme 001 01 8001 01 internet 1 1\nup 0\n" + each, RUNS.read_trace, "usual_event"))
+                out = b"out e0" + each[2:]
+                self.assertEqual(read_or_refused(b"out e0 0 00\n" + out, RUNS.read_answers),
+                                 read_or_refused(b"out e0 0 00\n" + out, RUNS.read_answers, "usual_answer"))
+
     def test_nas_messages(self):
         """A NAS message of a shape that was met is read as any other: those of the rows, and each with bits turned by a seed."""
         rng, known = random.Random(93), set()
@@ -407,6 +481,22 @@ class Usual(unittest.TestCase):
                     wanted = NAS.read_esm(each) if is_esm else NAS.read_emm(each, direction)
                     self.assertEqual(all_of_nas(NAS.decode_plain(each, direction)), all_of_nas(wanted), each.hex())
         self.assertGreater(len(known), 60)
+
+
+def with_hole_filled(octets, hole, rng):
+    """The octets with anything in a hole that may stand there."""
+    shift = 8 * len(octets) - hole.first - hole.width
+    bits, number = rng.randrange(hole.least or 0, 1 << hole.width), int.from_bytes(octets, "big")
+    return (number & ~((1 << hole.width) - 1 << shift) | bits << shift).to_bytes(len(octets), "big")
+
+
+def read_or_refused(octets, read, without=None):
+    """What is read of these octets, or why it can't be taken; perhaps without a function of runs.py, which then answers nothing."""
+    with mock.patch.object(RUNS, without, lambda *_: None) if without else contextlib.nullcontext():
+        try:
+            return read(octets)
+        except RUNS.Fault as fault:
+            return str(fault)
 
 
 def nas_of_rows():
@@ -477,8 +567,23 @@ class Expected(unittest.TestCase):
                     if kind not in known:
                         known.add(kind)
                         with self.subTest(row=name, message=expected.text()):
+                            self.assertTrue(expected.is_sent(answer.owner, answer.station, answer.octets, MACS.is_right))
                             self.assertEqual(unseen(expected, answer, rng), [])
         self.assertGreater(len(known), 60)
+
+    def test_another_value(self):
+        """A message that is owed isn't one with another value, whether that is read or written; nor is it for another."""
+        for name, trace, answers in runs_of_rows():
+            world, sent, before = WORLD.World(trace.head), iter(answer for answer in answers if answer.word == "out"), None
+            for event in trace.events:
+                for expected in world.take(event)[1]:
+                    answer = next(sent)
+                    if before and before.octets != answer.octets:
+                        self.assertFalse(expected.is_sent(answer.owner, answer.station, before.octets, MACS.is_right), name)
+                    if expected.is_sent(answer.owner, answer.station, answer.octets, MACS.is_right):
+                        before = answer
+                    self.assertFalse(expected.is_sent(answer.owner, answer.station + 1, answer.octets, MACS.is_right), name)
+                    self.assertFalse(expected.is_sent("e9", answer.station, answer.octets, MACS.is_right), name)
 
     def test_what_is_said_of_it(self):
         """An answer that is missing, one too many, and one that is another, in a run whose answers stand at their events."""

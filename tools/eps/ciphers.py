@@ -31,10 +31,10 @@ def substitution_box():
 
 
 SBOX = substitution_box()
-DOUBLED = bytes(doubled(octet) & 0xFF for octet in range(256))
 COLUMNS = [(doubled(s), s, s, doubled(s) ^ s) for s in SBOX]
 STATE = struct.Struct(">4I")  # a state is column by column (clause 3.4)
-SHIFTED = operator.itemgetter(*((at + 4 * (at % 4)) % BLOCK for at in range(BLOCK)))  # where each octet comes from in ShiftRows
+SHIFTS = [(at + 4 * (at % 4)) % BLOCK for at in range(BLOCK)]  # where each octet comes from in ShiftRows
+SHIFTED = operator.itemgetter(*SHIFTS)
 
 
 def table_of(at):
@@ -76,9 +76,12 @@ def padded(message):
     return message if message and len(message) % BLOCK == 0 else message + b"\x80" + bytes(-(len(message) + 1) % BLOCK)
 
 
+DIRECTIONS = tuple(bytes([direction << 2, 0, 0, 0]) for direction in range(2))  # with bearer 0
+
+
 def eia2_text(count, direction, message):
     """What 128-EIA2 with bearer 0 is the CMAC of (TS 33.401 annex B.2.3)."""
-    return count.to_bytes(4, "big") + bytes([direction << 2, 0, 0, 0]) + message
+    return count.to_bytes(4, "big") + DIRECTIONS[direction] + message
 
 
 class Cmac:
@@ -124,17 +127,29 @@ HASHED = 64
 INNER, OUTER = (bytes(octet ^ pad for octet in range(256)) for pad in (0x36, 0x5C))
 
 
-def derived(key, code, *parameters):
-    """The key derivation function (TS 33.401 annex A.1, TS 33.220 annex B.2)."""
-    text = bytes([code]) + b"".join(parameter + len(parameter).to_bytes(2, "big") for parameter in parameters)
+def hmac(key, text):
+    """HMAC-SHA-256."""
     padded = key.ljust(HASHED, b"\0")
     return hashlib.sha256(padded.translate(OUTER) + hashlib.sha256(padded.translate(INNER) + text).digest()).digest()
+
+
+def derived(key, code, *parameters):
+    """The key derivation function (TS 33.401 annex A.1, TS 33.220 annex B.2)."""
+    return hmac(key, derived_from(code, *parameters))
+
+
+def derived_from(code, *parameters):
+    """What it makes a key of, beside the key."""
+    return bytes([code]) + b"".join([parameter + len(parameter).to_bytes(2, "big") for parameter in parameters])
+
+
+EIA2_KEY = derived_from(0x15, b"\x02", b"\x02")  # of NAS integrity (annex A.7)
 
 
 @functools.lru_cache(4096)
 def nas_integrity(kasme):
     """The cipher of the NAS integrity key for EIA2 (annex A.7)."""
-    return Cmac(derived(kasme, 0x15, b"\x02", b"\x02")[BLOCK:])
+    return Cmac(hmac(kasme, EIA2_KEY)[BLOCK:])
 
 
 def kenb(kasme, count):

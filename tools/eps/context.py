@@ -61,12 +61,12 @@ class Context:
         return self.down - 1
 
     def make_radio_key(self, count):
-        """KeNB by an uplink count, and the first next hop (TS 33.401 clauses A.3, A.4)."""
-        self.radio_key = ciphers.kenb(self.kasme, count)
-        self.next_hop, self.chaining = ciphers.next_hop(self.kasme, self.radio_key), 1
+        """KeNB by an uplink count; the first next hop is made of it once it is needed (TS 33.401 clauses A.3, A.4)."""
+        self.radio_key, self.next_hop, self.chaining = ciphers.kenb(self.kasme, count), None, 1
 
     def take_hop(self):
-        self.next_hop, self.chaining = ciphers.next_hop(self.kasme, self.next_hop), (self.chaining + 1) % 8
+        before = self.next_hop or ciphers.next_hop(self.kasme, self.radio_key)
+        self.next_hop, self.chaining = ciphers.next_hop(self.kasme, before), (self.chaining + 1) % 8
 
     def keep(self, count, line):
         self.last = count

@@ -18,6 +18,7 @@ def s1ap_plmn(octets):
     return "%s %s" % (digits[:3], digits[4:] if digits[3] == FILLER else digits[3:])
 
 
+@functools.lru_cache(1 << 8)
 def nas_plmn(octets):
     """A PLMN in the form of NAS (TS 24.008 clause 10.5.1.3): the third digit of the MNC stands where S1AP has the first."""
     digits = halves(octets)

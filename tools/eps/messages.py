@@ -7,14 +7,14 @@ import enum
 import functools
 
 import s1ap
-from eps import usual
-from eps.elements import ELEMENTS, MME_ID, NAS_PDU, SETUP_LIST, SOURCE_MME_ID
-from eps.per import CRITICALITIES, ElementsOf, Number, Reader, Unreadable, read_criticality, skip_additions
-from eps.shapes import Shape, Shapes, of_octets
+from eps.elements import ELEMENTS, ENB_ID, MME_ID, NAS_PDU, SETUP_LIST, SOURCE_MME_ID
+from eps.frames import Frame, without_nas
+from eps.per import Number, Reader, Unreadable, read_criticality, skip_additions
+from eps.shapes import Shape, Shapes
+from eps.usual import INSIDE
 
 OUTCOMES = ("initiating", "successful", "unsuccessful")
 REJECT, IGNORE, NOTIFY = "reject", "ignore", "notify"
-KEPT, LONGEST_KEPT = 1 << 10, 64  # values of an element that are kept, and the octets of the longest one
 PASSED_OVER = {75: "GUMMEI", 127: "CSG Id", 128: "CSG Id List"}  # elements that are skipped though they are marked reject
 
 
@@ -105,24 +105,20 @@ def name_of(number):
 
 
 class Message:
-    """A message of S1AP: what was read of it, and its first fault with words on it, or None; `values` has of each id the value of
-    the first element. One that is spelled as usual has its frame."""
-    __slots__ = "octets", "code", "outcome", "criticality", "fault", "why", "values", "frame", "listed"
+    """A message of S1AP: what was read of it, and its first fault with words on it, or None. Its kind is its procedure's code and
+    which of its messages it is, each None where that can't be read; `values` has of each id the value of the first element."""
+    fault = why = None
 
-    def __init__(self, octets, frame=None, values=None):
-        self.octets, self.frame, self.fault, self.why = octets, frame, None, None
-        if frame:
-            (self.code, self.outcome), self.criticality, self.values, self.listed = frame.kind, frame.criticality, values, None
-        else:
-            self.code = self.outcome = self.criticality = None
-            self.values, self.listed = {}, []
+    def __init__(self, octets):
+        self.octets, self.kind, self.criticality, self.elements, self.values = octets, (None, None), None, [], {}
 
     @property
-    def elements(self):
-        """Its elements, from the left."""
-        if self.listed is None:
-            self.listed = self.frame.elements(self.octets, self.values)
-        return self.listed
+    def code(self):
+        return self.kind[0]
+
+    @property
+    def outcome(self):
+        return self.kind[1]
 
     @property
     def name(self):
@@ -130,63 +126,75 @@ class Message:
 
     @property
     def form(self):
-        return FORMS.get((self.code, self.outcome))
+        return FORMS.get(self.kind)
 
     def get(self, number):
         """The value of the first element with this id, or None."""
         return self.values.get(number)
 
+    def own_ids(self):
+        """The MME UE S1AP ID that the message names an association by, and the eNB UE S1AP ID in an element of its own; each None
+        where it isn't there."""
+        return self.get(SOURCE_MME_ID if self.kind == (s1ap.PATH_SWITCH, 0) else MME_ID), self.get(ENB_ID)
+
     def mme_id(self):
-        """The MME UE S1AP ID that the message names an association by, or None."""
-        return self.values.get(SOURCE_MME_ID if self.code == s1ap.PATH_SWITCH and self.outcome == 0 else MME_ID)
+        return self.own_ids()[0]
 
     def nas(self):
         """The octets of the NAS message in it, or None."""
-        carried = self.values.get(NAS_PDU)
-        if carried is None and self.values.get(SETUP_LIST):
-            carried = self.values[SETUP_LIST][0].get("NAS-PDU")
+        carried = self.get(NAS_PDU)
+        if carried is None and self.get(SETUP_LIST):
+            carried = self.get(SETUP_LIST)[0].get(INSIDE)
         return carried
+
+    def values_without_nas(self):
+        """The values of its elements, but for the NAS messages in them."""
+        return without_nas(self.values)
+
+    def is_in_order(self):
+        """Whether it has its elements in the order and with the criticalities that a sender of the profile writes."""
+        written = [(element.id, element.criticality) for element in self.elements]
+        return are_in_order(self.form, self.criticality, written) and are_as_written(element.value for element in self.elements)
 
     def at_fault(self, fault, why):
         if self.fault is None:
             self.fault, self.why = fault, why
 
 
-class Frame:
-    """What messages have in common that are spelled as usual and differ in the octets of their elements alone: where each element
-    stands, and what reads its value."""
+class Framed(Message):
+    """One that is spelled as usual, and has no fault: its frame, the ids in it, and the values that were read to see that it can be
+    read. The others are read once they are asked for."""
 
-    def __init__(self, octets, found):
-        self.kind, self.criticality = (octets[1], octets[0] >> 5), CRITICALITIES[octets[2] >> 6]
-        self.spans = found
-        self.criticalities = [CRITICALITIES[octets[start - (2 if end - start < s1ap.SHORT else 3)] >> 6]
-                              for start, end in found.values()]
-        self.readers = [(number, start, end, reader_of(number, end - start)) for number, (start, end) in found.items()]
-        self.lists = [number for number in found if isinstance(ELEMENTS[number][1], ElementsOf)]
-        self.is_in_order = are_in_order(FORMS[self.kind], self.criticality, list(zip(found, self.criticalities)))
+    def __init__(self, octets, frame, ids, given=()):
+        self.octets, self.kind, self.frame, self.ids, self.given = octets, frame.kind, frame, ids, given
 
-    def values(self, octets):
-        """The value of each element of a message, by its id."""
-        values = {}
-        for number, start, end, read in self.readers:
-            value = read(octets[start:end])
-            values[number] = ELEMENTS[number][1].whole(octets[start:end]) if value is None else value
-        return values
+    @property
+    def criticality(self):
+        return self.frame.criticality
 
-    def elements(self, octets, values):
-        return [Element(number, criticality, octets[start:end], values[number])
-                for (number, (start, end)), criticality in zip(self.spans.items(), self.criticalities)]
+    @functools.cached_property
+    def values(self):
+        return self.frame.values(self)
 
+    @functools.cached_property
+    def elements(self):
+        return [Element(number, criticality, self.octets[start:end], self.values[number])
+                for (number, criticality), (start, end) in zip(self.frame.written(), self.frame.spans.values())]
 
-def reader_of(number, length):
-    """What reads the value of an element of the profile with so many octets, or answers None where it isn't spelled as usual."""
-    return usual.READERS.get(number) or (kept_reader(number) if length <= LONGEST_KEPT else ELEMENTS[number][1].whole)
+    def get(self, number):
+        return self.frame.get(self, number)
 
+    def own_ids(self):
+        return self.ids if self.frame.has_own_ids else self.frame.own_ids(self.ids)
 
-@functools.cache
-def kept_reader(number):
-    """What reads an element's value, and keeps values, which are met again and again."""
-    return functools.lru_cache(KEPT)(ELEMENTS[number][1].whole)
+    def nas(self):
+        return self.octets[self.frame.nas] if self.frame.nas else super().nas()
+
+    def values_without_nas(self):
+        return self.frame.values_without_nas(self)
+
+    def is_in_order(self):
+        return self.frame.is_in_order and (not self.given or are_as_written(self.given))
 
 
 FRAMES = Shapes()
@@ -195,24 +203,33 @@ FRAMES = Shapes()
 def decode(octets):
     """The message that these octets are. One that is spelled as usual and has no fault is read by its frame, which is looked at
     once: that reads what decode_whole does."""
-    frame = FRAMES.kept_of(octets) or frame_met(octets)
-    if frame:
-        try:
-            return Message(octets, frame, frame.values(octets))
-        except Unreadable:
-            pass
-    return decode_whole(octets)
+    found = FRAMES.find(octets) or frame_met(octets)
+    if found is None:
+        return decode_whole(octets)
+    frame, ids = found
+    if not frame.doubtful:
+        return Framed(octets, frame, ids)
+    try:
+        return Framed(octets, frame, ids, frame.read_doubtful(octets))
+    except Unreadable:
+        return decode_whole(octets)
 
 
 def frame_met(octets):
-    """The frame of a message of another one than those before, which is kept; None where it isn't spelled as usual."""
+    """The frame of a message of another one than those before, which is kept, and its ids; None where it isn't spelled as usual."""
     found = s1ap.spans(octets)
     form_of = found is not None and FORMS.get((octets[1], octets[0] >> 5))
     if not form_of or not form_of.needed <= found.keys() <= form_of.known:
         return None
-    frame = Frame(octets, found)
-    FRAMES.keep(octets, Shape(octets, [of_octets(start, end) for start, end in found.values()], frame))
-    return frame
+    try:
+        values = {number: ELEMENTS[number][1].whole(octets[start:end]) for number, (start, end) in found.items()}
+    except Unreadable:
+        return None
+    frame = Frame(octets, found, values)
+    frame.is_in_order = are_in_order(form_of, frame.criticality, frame.written()) and are_as_written(
+        values[number] for number, *_ in frame.varying)
+    FRAMES.keep(octets, Shape(octets, frame.holes, frame))
+    return FRAMES.find(octets)
 
 
 def decode_whole(octets):
@@ -236,7 +253,7 @@ def read_frame(message, reader):
         raise Unreadable("no kind of message that there is")
     code = Number(0, 255).read(reader)
     criticality = read_criticality(reader)
-    message.outcome, message.code, message.criticality = kind, code, str(criticality)
+    message.kind, message.criticality = (code, kind), str(criticality)
     value = reader.open()
     reader.finish()
     return value
@@ -282,14 +299,9 @@ def missing(message):
             message.at_fault(Fault.MISSING_ELEMENT, "element %d, %s" % (number, ELEMENTS[number][0]))
 
 
-def is_in_order(message):
-    """Whether a message has its elements in the order and with the criticalities that a sender of the profile writes."""
-    frame = message.frame
-    if frame:
-        return frame.is_in_order and all(message.values[number].as_written for number in frame.lists)
-    written = [(element.id, element.criticality) for element in message.elements]
-    items = all(getattr(element.value, "as_written", True) for element in message.elements)
-    return items and are_in_order(message.form, message.criticality, written)
+def are_as_written(values):
+    """Whether in the lists among values each item has the criticality that a sender of the profile gives it."""
+    return all(getattr(value, "as_written", True) for value in values)
 
 
 def are_in_order(form_of, criticality, written):

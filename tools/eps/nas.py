@@ -21,6 +21,7 @@ HEADERS = {0: "plain", 1: "integrity protected", 2: "integrity protected and cip
            12: "security header for the SERVICE REQUEST message"}
 INTEGRITY, CIPHERED, NEW_CONTEXT, NEW_CIPHERED, SERVICE_HEADER = 1, 2, 3, 4, 12
 PROTECTED_HEADERS = (INTEGRITY, CIPHERED, NEW_CONTEXT, NEW_CIPHERED)
+PROTECTED_FIRST = {bytes([header << 4 | s1ap.EMM]): header for header in PROTECTED_HEADERS}  # by a message's first octet
 
 ATTACH_REQUEST, ATTACH_ACCEPT, ATTACH_COMPLETE, ATTACH_REJECT = 0x41, 0x42, 0x43, 0x44
 DETACH_REQUEST, DETACH_ACCEPT = 0x45, 0x46
@@ -439,8 +440,8 @@ class Protected:
 
 def split(octets):
     """The protected form of these octets, or None where they haven't it."""
-    header = octets[0] >> 4 if octets and octets[0] & 0xF == s1ap.EMM else 0
-    if header not in PROTECTED_HEADERS or len(octets) < s1ap.PROTECTED:
+    header = PROTECTED_FIRST.get(octets[:1])
+    if header is None or len(octets) < s1ap.PROTECTED:
         return None
     return Protected(header, octets[1:5], octets[5], octets[6:])
 

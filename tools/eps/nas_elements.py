@@ -5,6 +5,7 @@ from causes import emm_cause, esm_cause
 from eps import identities
 from eps.per import Enumerator
 
+KEPT = 1 << 8  # values of an element that are kept, where phones mostly have the same
 IMSI_OCTETS, GUTI_OCTETS = 8, 11  # with the first one (clause 9.9.3.12)
 IMSI_TYPE, GUTI_FIRST, ODD = 1, 0xF6, 8
 IDENTITY_TYPES = {1: "IMSI", 2: "IMEI", 3: "IMEISV", 6: "GUTI"}
@@ -36,6 +37,7 @@ UPDATE_RESULTS = {0: "TA updated", 1: "combined TA/LA updated", 4: "TA updated a
                   5: "combined TA/LA updated and ISR activated"}
 ASKED_IDENTITIES = {1: "IMSI", 2: "IMEI", 3: "IMEISV", 4: "TMSI"}
 PDN_TYPES = {1: "IPv4", 2: "IPv6", 3: "IPv4v6", 4: "unused"}
+IPV4 = named(PDN_TYPES, 1)
 REQUEST_TYPES = {1: "initial request", 2: "handover", 4: "emergency"}
 CIPHERINGS = dict(enumerate(identities.EEA))
 INTEGRITIES = dict(enumerate(identities.EIA))
@@ -77,6 +79,7 @@ def guti(octets):
     return value
 
 
+@functools.lru_cache(KEPT)
 def capability(octets):
     """UE network capability (clause 9.9.3.34): the algorithms; octets beyond them by name alone."""
     if not 2 <= len(octets) <= 13:
@@ -90,6 +93,7 @@ def capability(octets):
     return value
 
 
+@functools.lru_cache(KEPT)
 def tai_list(octets):
     """A tracking area identity list of one area (clause 9.9.3.33)."""
     if len(octets) != 6 or octets[0]:
@@ -101,6 +105,7 @@ def tai(octets):
     return {"PLMN": identities.nas_plmn(octets[:3]), "TAC": octets[3:].hex()} if len(octets) == 5 else octets.hex()
 
 
+@functools.lru_cache(KEPT)
 def apn(octets):
     """An access point name of one label (TS 23.003 clause 9.1, in the profile)."""
     labels, at = [], 0
@@ -117,7 +122,7 @@ def pdn_address(octets):
     """An IPv4 address (clause 9.9.4.9)."""
     if len(octets) != 5 or octets[0] != 1:
         raise Beyond(octets.hex(), "an address that isn't IPv4")
-    return {"PDN type": named(PDN_TYPES, octets[0] & 7), "address": identities.address(32, octets[1:])}
+    return {"PDN type": IPV4, "address": identities.address(32, octets[1:])}
 
 
 def qos(octets):

@@ -1,5 +1,6 @@
 """What a trace's head says: the MME's network, the subscribers and their vectors (README.md, "A trace")."""
 import dataclasses
+import functools
 
 import runs
 from eps import identities
@@ -49,7 +50,7 @@ class Network:
     apn: str
     rates: tuple
 
-    @property
+    @functools.cached_property
     def plmn(self):
         return "%s %s" % (self.mcc, self.mnc)
 

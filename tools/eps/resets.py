@@ -4,6 +4,7 @@ import re
 
 import runs
 import s1ap
+from eps.writing import fewest, sized
 
 MOST_ITEMS = 256  # of a list (TS 36.413 clause 9.1.8.1)
 ITEM = re.compile("mme=([0-9]{1,10})(?:,enb=([0-9]{1,8}))?|enb=([0-9]{1,8})")
@@ -24,17 +25,6 @@ def item_of(text):
     if (mme_id or 0) > MOST_MME_ID or (enb_id or 0) > MOST_ENB_ID:
         raise runs.Fault("%r: an MME UE S1AP ID is %d at the most, an eNB UE S1AP ID %d" % (text, MOST_MME_ID, MOST_ENB_ID))
     return mme_id, enb_id
-
-
-def sized(octets):
-    """Octets after their length (X.691 clause 11.9.3)."""
-    size = len(octets)
-    return (bytes([size]) if size < s1ap.SHORT else (s1ap.SHORT << 8 | size).to_bytes(2, "big")) + octets
-
-
-def fewest(number):
-    """A number in the fewest octets (X.691 clause 11.5.7.4)."""
-    return number.to_bytes(max(1, (number.bit_length() + 7) // 8), "big")
 
 
 def item_octets(mme_id, enb_id):

@@ -165,7 +165,7 @@ class Laboratory:
     def delivers(self, answer):
         """A message of the MME reaches its station, and the phone there."""
         message = messages.decode(answer.octets)
-        kind, enb_id = (message.code, message.outcome), render.message_ids(message)[1]
+        kind, enb_id = message.kind, render.message_ids(message)[1]
         if kind == (s1ap.SETUP, 1):
             self.ends(answer.station)
             self.ready.add(answer.station)
@@ -263,7 +263,7 @@ ASKED = {"tau": nas.TAU_REQUEST, "detach": nas.DETACH_REQUEST, "off": nas.DETACH
 
 def is_of_phone(word, message):
     """Whether a message is one that a phone sends by a word of its own, and not for an answer."""
-    kind = message.code, message.outcome
+    kind = message.kind
     if kind not in STARTED.get(word, {(s1ap.INITIAL_UE, 0)}):
         return False
     carried = message.nas() or b""

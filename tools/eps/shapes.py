@@ -41,7 +41,11 @@ class Shape:
 
     def told(self, number):
         """The numbers in a message, itself a number, that are told of it; None where it isn't of this shape."""
-        if number & self.same != self.value or self.digits and number >> 3 & (number >> 2 | number >> 1) & self.digits:
+        return self.told_within(number) if number & self.same == self.value else None
+
+    def told_within(self, number):
+        """The same of a number that has the octets that are the same in all."""
+        if self.digits and number >> 3 & (number >> 2 | number >> 1) & self.digits:
             return None
         told = []
         for shift, mask, least in self.numbers:
@@ -64,9 +68,10 @@ class Shapes:
         if known:
             number = int.from_bytes(octets, "big")
             for shape in known:
-                told = shape.told(number)
-                if told is not None:
-                    return shape.kept, told
+                if number & shape.same == shape.value:
+                    told = shape.told_within(number)
+                    if told is not None:
+                        return shape.kept, told
         return None
 
     def kept_of(self, octets):

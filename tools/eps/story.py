@@ -2,16 +2,26 @@
 MME did otherwise than the standards' model (world.py) expects.
 """
 import dataclasses
+import enum
 import typing
 
 import progress
 import runs
 from eps import macs, messages, render
 from eps.elements import CAUSE
-from eps.telling import Expected
+from eps.telling import BriefNow, Expected, Now
 from eps.world import World
 
 MOST_TOLD = 50000  # events of a run that is told where that isn't asked for
+
+
+class Extent(enum.Enum):
+    """What is kept of a run that is told: all of it, the events with a reason, or of these the reasons alone."""
+    WHOLE, EVENTS, REASONS = "whole", "events", "reasons"
+
+    def now(self):
+        """What takes what is told of an event."""
+        return BriefNow if self is Extent.REASONS else Now
 
 
 @dataclasses.dataclass(slots=True)
@@ -47,7 +57,7 @@ class Told:
 
     def has_reason(self):
         """Whether it is told why something did not do more, or that the MME did otherwise."""
-        return bool(self.otherwise) or any(telling.why for telling in self.tellings)
+        return bool(self.otherwise) or has_reason(self.tellings)
 
     def subject(self, telling):
         """What a telling is said of: a station's message by its innermost name, or what else the telling says."""
@@ -58,6 +68,10 @@ class Told:
         mark, reason = telling.mark(), telling.reason()
         text = "%s %s%s" % (self.subject(telling), telling.role, " (%s)" % mark.value if mark else "")
         return "%s: %s" % (text, reason) if reason else text
+
+
+def has_reason(tellings):
+    return any([telling.why for telling in tellings])
 
 
 def message_name(octets, from_mme=False):
@@ -79,6 +93,18 @@ def differences(expected, answered, is_right=macs.is_right):
     return list(expected.differences(answer.owner, answer.station, answer.octets, is_right))
 
 
+def is_owed(expected, answer, is_right):
+    """Whether an answer is what is expected, a line or a message; `is_right` says whether a MAC is."""
+    if answer.word == "out":
+        return not isinstance(expected, str) and expected.is_sent(answer.owner, answer.station, answer.octets, is_right)
+    return expected == line_of(answer)
+
+
+def are_owed(owed, answers, is_right):
+    """Whether answers are those that are owed, in their order."""
+    return len(owed) == len(answers) and all([is_owed(*pair, is_right) for pair in zip(owed, answers)])
+
+
 def line_of(answer):
     """A refusal or a state as the line of an answer."""
     return "refused %d" % answer.fault if answer.word == "refused" else "state %s %s" % (answer.imsi, answer.states)
@@ -93,17 +119,17 @@ def owner_of(expected):
 
 
 class Teller:
-    """Tells a run, event by event, by a world of its own; `is_right` says whether a MAC is."""
+    """Tells a run, event by event, by a world of its own; `is_right` says whether a MAC is, and `now` takes what is told."""
 
-    def __init__(self, trace, is_right=macs.is_right):
-        self.world = World(trace.head, is_right)
+    def __init__(self, trace, is_right=macs.is_right, now=Now):
+        self.world = World(trace.head, is_right, now)
         self.strayed = set()  # owners of which the MME did otherwise: no more of theirs is compared
 
     def owed(self, event):
         """The second of an event, its refusals and states as lines and its messages, and what it was."""
         second = self.world.second
         line, sent, tellings = self.world.take(event)
-        return second, ([line] if line else []) + sent, tellings
+        return second, [line, *sent] if line else sent, tellings
 
     def told(self, event, pairs):
         """An event with its answers, each with its second."""
@@ -112,7 +138,7 @@ class Teller:
         told = Told(event, second, tellings, [Answered(answer.owner or own, at, answer) for at, answer in pairs])
         missing, place = [], 0
         for answered in told.answered:
-            found = next((at for at in range(place, len(owed)) if not differences(owed[at], answered)), None)
+            found = next((at for at in range(place, len(owed)) if is_owed(owed[at], answered.answer, macs.is_right)), None)
             if found is not None:
                 missing += owed[place:found]
                 self.fit(answered, owed[found], second)
@@ -126,6 +152,12 @@ class Teller:
             return "e%d" % event.station
         subscriber = self.world.by_imsi.get(event.imsi)
         return subscriber.owner if subscriber else ""
+
+    def fitting(self, event, answer, expected, second):
+        """An answer to an event that is what is expected."""
+        answered = Answered(answer.owner or self.owner(event), second, answer)
+        self.fit(answered, expected, second)
+        return answered
 
     @staticmethod
     def fit(answered, expected, second):
@@ -156,12 +188,12 @@ class Teller:
             told.otherwise.append((owner, text))
 
 
-def story_of(trace, steps, brief=False):
-    """Each event of a run, told, in brief those with a reason alone; and the network as it is at the end."""
+def story_of(trace, steps, extent=Extent.WHOLE):
+    """Each event of a run, told, to this extent; and the network as it is at the end."""
     def tell(is_right):
-        teller = Teller(trace, is_right)
+        teller = Teller(trace, is_right, extent.now())
         told = (teller.told(step.event, step.answers) for step in progress.over("tells event", steps, len(steps)))
-        return [each for each in told if not brief or each.has_reason()], teller.world
+        return [each for each in told if extent is Extent.WHOLE or each.has_reason()], teller.world
 
     return with_claims(tell)
 
@@ -182,61 +214,58 @@ def with_claims(tell):
 
 
 class Run(typing.NamedTuple):
-    """A trace, its steps, and their story with the network as it is at the end, where they were told. Steps that aren't told come
-    one by one, each once its answers are known, and once in all."""
+    """A trace, its steps, and their story with the network as it is at the end, where they were told: of those that were told to an
+    extent perhaps only the ones that are kept. Steps that aren't told come one by one, each once its answers are known, and once in
+    all."""
     trace: runs.Trace
     steps: typing.Iterable
     told: list | None = None
     world: World | None = None
 
 
-def exact_run(trace, answers, brief=False):
+def exact_run(trace, answers, extent=Extent.WHOLE):
     """The run of a trace with its answers as the model owes them, in their order; None where they aren't those."""
-    return with_claims(lambda is_right: run_as_owed(trace, answers, brief, is_right))
+    return with_claims(lambda is_right: run_as_owed(trace, answers, extent, is_right))
 
 
-def run_as_owed(trace, answers, brief, is_right):
+def run_as_owed(trace, answers, extent, is_right):
     """The same, where `is_right` says whether a MAC is."""
-    teller, at, steps, told = Teller(trace, is_right), 0, runs.started(trace), []
-    for step in progress.over("tells event", steps, len(steps)):
-        second, owed, tellings = teller.owed(step.event)
+    teller, at, steps, told, is_whole = Teller(trace, is_right, extent.now()), 0, [], [], extent is Extent.WHOLE
+    for event in progress.over("tells event", trace.events, len(trace.events)):
+        second, owed, tellings = teller.owed(event)
         taken = answers[at:at + len(owed)]
-        answered = [Answered(answer.owner or teller.owner(step.event), second, answer) for answer in taken]
-        if len(taken) < len(owed):
+        if owed and not are_owed(owed, taken, is_right):
             return None
-        for each, expected in zip(answered, owed):
-            if differences(expected, each, is_right):
-                return None
-            teller.fit(each, expected, second)
-        step.answers = [(each.second, each.answer) for each in answered]
-        if not brief or any(telling.why for telling in tellings):
-            told.append(Told(step.event, second, tellings, answered))
         at += len(owed)
+        if is_whole or tellings and has_reason(tellings):
+            answered = [teller.fitting(event, *pair, second) for pair in zip(taken, owed)]
+            told.append(Told(event, second, tellings, answered))
+            steps.append(runs.Step(event, second, [(each.second, each.answer) for each in answered]))
     return Run(trace, steps, told, teller.world) if at == len(answers) else None
 
 
-def matched_run(trace, answers, brief=False):
+def matched_run(trace, answers, extent=Extent.WHOLE):
     """The run of a trace with answers that may be others than the model owes."""
-    return exact_run(trace, answers, brief) or told_run(trace, runs.matched(trace, answers), brief)
+    return exact_run(trace, answers, extent) or told_run(trace, runs.matched(trace, answers), extent)
 
 
-def told_run(trace, steps, brief=False):
-    return Run(trace, steps, *story_of(trace, steps, brief))
+def told_run(trace, steps, extent=Extent.WHOLE):
+    return Run(trace, steps, *story_of(trace, steps, extent))
 
 
-def run_of(trace_path, answers_path, program=None, most=None, brief=False):
-    """A run by the paths of its trace and answers, as runs.run_of has them; answers that are given go to the events that owe them
-    by the standards. In brief only the events that are told with a reason are kept.
+def run_of(trace_path, answers_path, program=None, most=None, extent=Extent.WHOLE):
+    """A run by the paths of its trace and answers, as runs.run_of has them, told to an extent; answers that are given go to the
+    events that owe them by the standards.
 
     Where there are more than `most` events, or the trace is a log without keys, the run isn't told, and answers are matched by
     their kinds alone, which is quicker. Where it has to be told, with no `most`, a log without keys is a fault.
     """
     if answers_path is None or "-" == trace_path == answers_path:
         trace, steps = runs.run_of(trace_path, answers_path, program)
-        return Run(trace, steps) if why_untold(trace, most) else told_run(trace, steps, brief)
+        return Run(trace, steps) if why_untold(trace, most) else told_run(trace, steps, extent)
     trace = runs.read_trace(runs.read_file(trace_path), trace_path)
     answers = runs.read_answers(runs.read_file(answers_path), answers_path)
-    return Run(trace, runs.matching(trace, answers)) if why_untold(trace, most) else matched_run(trace, answers, brief)
+    return Run(trace, runs.matching(trace, answers)) if why_untold(trace, most) else matched_run(trace, answers, extent)
 
 
 def why_untold(trace, most=MOST_TOLD):

@@ -48,9 +48,8 @@ class Stranger:
 
     # --- A first message that names nobody ---
 
-    def on_first(self, now, octets):
+    def on_first(self, now, message):
         self.close()
-        message = nas.decode_emm(nas.named_message(octets), nas.UP)
         if message.type == nas.ATTACH_REQUEST and not message.fault:
             self.on_attach(now, message)
         elif message.type in (nas.ATTACH_REQUEST, nas.TAU_REQUEST) and message.fault in UNREADABLE:
@@ -99,7 +98,7 @@ class Stranger:
 
     def on_message(self, now, subscribers):
         """A message with this id, where no subscriber holds it; answers the subscriber that the stranger turns out to be."""
-        kind = now.message.code, now.message.outcome
+        kind = now.kind
         if kind in ((s1ap.RELEASE, 1), (s1ap.PATH_SWITCH, 0)) or not self.is_waiting():
             closed(now, self.owner, kind)
         elif not self.place.is_at(now.station, now.enb_id):

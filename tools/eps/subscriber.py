@@ -18,6 +18,9 @@ from eps.telling import DETACHED, FAILED, NORMAL_RELEASE, NOT_COMPATIBLE, RADIO_
 from eps.telling import Place, Said
 
 BEARER = 5
+PRIORITY = {"priority level": 15, "pre-emption capability": "shall not trigger pre-emption",
+            "pre-emption vulnerability": "not pre-emptable"}
+QOS = {"QCI": 9, "allocation and retention priority": PRIORITY}
 PHONE, DATA, SUBSCRIPTION, FRONT = "the phone", "downlink data", "the subscription", "the front"  # what things are said of
 # Why a registration ends by `cancel`: what that is said of, what it is, and how it is said of what ended by it.
 WITHDRAWN = SUBSCRIPTION, "is withdrawn", "subscription was withdrawn"
@@ -41,10 +44,13 @@ class Phase(enum.Enum):
     DETACHING = "Detaching", "DEREGISTERED-INITIATED"
 
 
-SERVED = (Phase.REGISTERED, Phase.UPDATING)
+DEREGISTERED, AUTHENTICATING, SECURITY_MODE, ESM_INFORMATION, ACCEPTING, REGISTERED, UPDATING, DETACHING = Phase
+SERVED = (REGISTERED, UPDATING)
 FIRST_CAUSES = {EMM_MAC_FAILURE: Why.MAC_FAILURE, EMM_NON_EPS: Why.NON_EPS}
 FREE_OF_ANSWER = {nas.IDENTITY_RESPONSE, nas.EMM_STATUS}
 ESM_OF_PHONE = {nas.ACTIVATE_ACCEPT, nas.CONNECTIVITY_REQUEST, nas.DISCONNECT_REQUEST, nas.INFORMATION_RESPONSE, nas.ESM_STATUS}
+UPLINK, SWITCH = (s1ap.UPLINK_NAS, 0), (s1ap.PATH_SWITCH, 0)
+RELEASE_REQUEST, RELEASED = (s1ap.RELEASE_REQUEST, 0), (s1ap.RELEASE, 1)
 TAKEN_WITHOUT_ANSWER = {
     (s1ap.CONTEXT_SETUP, 1): "says that the phone's context is set up", (s1ap.CAPABILITY, 0): "gives the phone's radio capability",
     (s1ap.NON_DELIVERY, 0): "says that a message didn't reach the phone: its timer sends it again"}
@@ -56,7 +62,7 @@ class Subscriber:
     def __init__(self, network, profile, alarms, near, is_right):
         self.network, self.profile, self.owner, self.alarms, self.near = network, profile, profile.owner, alarms, near
         self.is_right = is_right
-        self.phase, self.place, self.context = Phase.DEREGISTERED, None, None
+        self.phase, self.place, self.context = DEREGISTERED, None, None
         self.associations = self.tmsis = self.spent = 0
         self.tmsi = self.area = self.vector = None
         self.bearer = "INACTIVE"
@@ -77,12 +83,12 @@ class Subscriber:
     # --- What everything is made of ---
 
     def phase_text(self):
-        return "%s%s" % (self.phase.value[0], " (%s)" % self.how if self.phase is Phase.DEREGISTERED else
-                         (" connected" if self.place else " idle") if self.phase is Phase.REGISTERED else "")
+        return "%s%s" % (self.phase.value[0], " (%s)" % self.how if self.phase is DEREGISTERED else
+                         (" connected" if self.place else " idle") if self.phase is REGISTERED else "")
 
     def is_amid(self):
         """Whether a procedure is under way that the phone or a station is to go on with."""
-        return self.phase not in (Phase.DEREGISTERED, Phase.REGISTERED)
+        return self.phase not in (DEREGISTERED, REGISTERED)
 
     def states(self):
         return "%s %s %s" % (self.phase.value[1], "CONNECTED" if self.place else "IDLE", self.bearer)
@@ -148,7 +154,7 @@ class Subscriber:
         self.leave(now, role)
 
     def wipe(self, how, keeps_place=False):
-        self.phase, self.context, self.tmsi, self.bearer, self.how = Phase.DEREGISTERED, None, None, "INACTIVE", how
+        self.phase, self.context, self.tmsi, self.bearer, self.how = DEREGISTERED, None, None, "INACTIVE", how
         self.procedure = self.reachable = None
         self.pages = []
         if not keeps_place:
@@ -157,7 +163,7 @@ class Subscriber:
     def falls(self, now, how):
         """What is left when a connection has ended: a registered phone is idle, any other is forgotten."""
         if self.phase in SERVED:
-            self.phase, self.procedure = Phase.REGISTERED, None
+            self.phase, self.procedure = REGISTERED, None
             self.start(now, timers.REACHABLE)
         else:
             self.wipe(how)
@@ -181,9 +187,8 @@ class Subscriber:
 
     # --- First messages ---
 
-    def on_initial(self, now, octets):
-        """An INITIAL UE MESSAGE that names the phone."""
-        message = nas.decode_emm(nas.named_message(octets), nas.UP)
+    def on_initial(self, now, octets, message):
+        """An INITIAL UE MESSAGE whose NAS message, of these octets, names the phone."""
         if message.type == nas.ATTACH_REQUEST:
             self.attach(now, message, now.message.get(TAI))
         elif message.type == nas.SERVICE_REQUEST:
@@ -238,7 +243,7 @@ class Subscriber:
         """The next vector's challenge."""
         self.vector = self.profile.vectors[self.spent]
         self.spent += 1
-        self.phase = Phase.AUTHENTICATING
+        self.phase = AUTHENTICATING
         self.send_challenge(now)
         self.start(now, timers.T3460_CHALLENGE, self.send_challenge)
 
@@ -260,7 +265,7 @@ class Subscriber:
         self.tell(now, "asks for service, and is proved by count %d" % self.context.last)
         self.connect(now)
         self.procedure = self.reachable = None
-        self.phase = Phase.REGISTERED
+        self.phase = REGISTERED
         self.context.make_radio_key(self.context.last)
         self.set_up_context(now, None)
 
@@ -284,7 +289,7 @@ class Subscriber:
         self.area, self.from_idle = now.message.get(TAI), from_idle
         self.combined = message.fields["EPS update type"].number in COMBINED_UPDATES
         self.next_tmsi()
-        self.phase = Phase.UPDATING
+        self.phase = UPDATING
         self.send_update(now)
         self.start(now, timers.T3450_UPDATE, self.send_update)
 
@@ -311,7 +316,7 @@ class Subscriber:
     def detach_first(self, now, octets, message):
         """DETACH REQUEST as a first message (clause 5.5.2.2)."""
         switched_off = message.fields["switch off"]
-        if self.phase is Phase.DEREGISTERED:
+        if self.phase is DEREGISTERED:
             self.tell(now, "detaches, though it isn't registered")
             self.connect(now)
             self.accept_detach(now, Said(nas.DETACH_ACCEPT, {}), switched_off)
@@ -336,16 +341,16 @@ class Subscriber:
     # --- Messages with an MME UE S1AP ID that is the phone's ---
 
     def on_message(self, now):
-        kind = now.message.code, now.message.outcome
-        if kind == (s1ap.RELEASE, 1):
-            self.tell(now, "completes a release, which had ended the association already")
-        elif self.place is None or self.place.mme_id != now.mme_id:
+        kind, place = now.kind, self.place
+        if kind == RELEASED:
+            now.tell(self.owner, "completes a release, which had ended the association already")
+        elif place is None or place.mme_id != now.mme_id:
             self.on_other_id(now, kind)
-        elif kind == (s1ap.PATH_SWITCH, 0):
+        elif kind == SWITCH:
             self.on_switch(now)
-        elif not self.place.is_at(now.station, now.enb_id):
-            self.tell(now, "isn't the phone's", Why.WRONG_PAIR, lines=(self.place.line,), mme_id=now.mme_id,
-                      station=self.place.station, enb_id=self.place.enb_id)
+        elif place.station != now.station or place.enb_id != now.enb_id:
+            self.tell(now, "isn't the phone's", Why.WRONG_PAIR, lines=(place.line,), mme_id=now.mme_id, station=place.station,
+                      enb_id=place.enb_id)
             now.send_error(self.owner, UNKNOWN_PAIR)
         else:
             self.on_connection(now, kind)
@@ -356,7 +361,7 @@ class Subscriber:
             self.tell(now, "is of nobody", Why.NO_ASSOCIATION, mme_id=now.mme_id)
         else:
             self.tell(now, "comes too late", Why.ASSOCIATION_ENDED, lines=(line,), mme_id=now.mme_id, line=line, how=how)
-        if kind == (s1ap.PATH_SWITCH, 0):
+        if kind == SWITCH:
             now.send_switch_failure(self.owner, UNKNOWN_ID)
         else:
             now.send_error(self.owner, UNKNOWN_ID)
@@ -379,24 +384,24 @@ class Subscriber:
 
     def on_connection(self, now, kind):
         """A message on the phone's own connection."""
-        if kind == (s1ap.RELEASE_REQUEST, 0):
+        if kind == UPLINK:
+            self.on_nas(now, now.message.nas())
+        elif kind in TAKEN_WITHOUT_ANSWER:
+            now.tell(self.owner, TAKEN_WITHOUT_ANSWER[kind])
+        elif kind == RELEASE_REQUEST:
             [(group, name)] = now.message.get(CAUSE).items()
             self.tell(now, "asks for the connection's release: %s %s" % (group, name))
             self.fall(now, RADIO_UNSPECIFIED if name.number is None else {group: name}, "the station asked for the release")
-        elif kind == (s1ap.CONTEXT_SETUP, 2):
+        else:
             self.tell(now, "ends the connection", Why.CONTEXT_FAILED)
             self.fall(now, RADIO_UNSPECIFIED, "the station couldn't set up the context")
-        elif kind in TAKEN_WITHOUT_ANSWER:
-            self.tell(now, TAKEN_WITHOUT_ANSWER[kind])
-        else:
-            self.on_nas(now, now.message.nas())
 
     # --- NAS on the connection ---
 
     def on_nas(self, now, octets):
-        if self.phase is Phase.AUTHENTICATING:
+        if self.phase is AUTHENTICATING:
             self.while_authenticating(now, octets)
-        elif self.phase is Phase.SECURITY_MODE:
+        elif self.phase is SECURITY_MODE:
             self.while_securing(now, octets)
         else:
             inside = self.accepted(octets, security.LATER, now.line)
@@ -430,7 +435,7 @@ class Subscriber:
         self.tell(now, "proves the phone by RES of vector %d" % self.vector.number)
         self.context = Context(self.vector, [old for old in self.contexts if old is not self.vector], self.is_right)
         self.contexts.append(self.vector)
-        self.phase = Phase.SECURITY_MODE
+        self.phase = SECURITY_MODE
         self.send_security_mode(now)
         self.start(now, timers.T3460_SECURITY, self.send_security_mode)
 
@@ -485,7 +490,7 @@ class Subscriber:
         self.tell(now, "completes the security mode, by count %d" % self.context.last)
         self.context.make_radio_key(self.context.last)
         if self.asks_information:
-            self.phase = Phase.ESM_INFORMATION
+            self.phase = ESM_INFORMATION
             self.ask_information(now)
             self.start(now, timers.T3489, self.ask_information)
         else:
@@ -499,7 +504,7 @@ class Subscriber:
     def accept(self, now):
         """The attach is accepted, and the context set up at the station."""
         self.next_tmsi()
-        self.bearer, self.phase = "ACTIVE-PENDING", Phase.ACCEPTING
+        self.bearer, self.phase = "ACTIVE-PENDING", ACCEPTING
         self.set_up_context(now, self.protected(self.acceptance()))
         self.start(now, timers.T3450_ATTACH, self.send_acceptance)
 
@@ -516,15 +521,11 @@ class Subscriber:
 
     def set_up_context(self, now, said):
         """INITIAL CONTEXT SETUP REQUEST with KeNB and the default bearer (TS 36.413 clause 9.1.4.1)."""
-        priority = {"priority level": 15, "pre-emption capability": "shall not trigger pre-emption",
-                    "pre-emption vulnerability": "not pre-emptable"}
-        item = {"E-RAB ID": BEARER, "E-RAB level QoS parameters": {"QCI": 9, "allocation and retention priority": priority},
-                "transport layer address": self.profile.gateway, "GTP-TEID": self.profile.teid}
+        item = {"E-RAB ID": BEARER, "E-RAB level QoS parameters": QOS, "transport layer address": self.profile.gateway,
+                "GTP-TEID": self.profile.teid}
         down, up = self.network.rates
         values = {0: self.place.mme_id, 8: self.place.enb_id, AMBR: {"down": down, "up": up}, SETUP_LIST: [item],
-                  CAPABILITIES: {"encryption algorithms": shifted("EEA", self.capability[0]),
-                                 "integrity algorithms": shifted("EIA", self.capability[1])},
-                  SECURITY_KEY: self.context.radio_key}
+                  CAPABILITIES: shifted(self.capability), SECURITY_KEY: self.context.radio_key}
         role = "accepts the attach, and gives the station the phone's context" if said else "gives the station the phone's context"
         now.send(self.owner, self.place.station, (s1ap.CONTEXT_SETUP, 0), values, role, said)
 
@@ -534,17 +535,17 @@ class Subscriber:
             self.status(now, message)
         elif message.is_esm:
             self.on_session(now, message)
-        elif message.type == nas.ATTACH_COMPLETE and self.phase is Phase.ACCEPTING:
+        elif message.type == nas.ATTACH_COMPLETE and self.phase is ACCEPTING:
             self.on_attach_complete(now, message.fields["ESM message container"])
-        elif message.type == nas.TAU_COMPLETE and self.phase is Phase.UPDATING:
+        elif message.type == nas.TAU_COMPLETE and self.phase is UPDATING:
             self.on_update_complete(now)
-        elif message.type == nas.TAU_REQUEST and self.phase is Phase.REGISTERED:
+        elif message.type == nas.TAU_REQUEST and self.phase is REGISTERED:
             self.update(now, message, from_idle=False)
         elif message.type == nas.DETACH_REQUEST:
             self.tell(now, "detaches")
             switched_off = message.fields["switch off"]
             self.accept_detach(now, None if switched_off else self.protected(Said(nas.DETACH_ACCEPT, {})), switched_off)
-        elif message.type == nas.DETACH_ACCEPT and self.phase is Phase.DETACHING:
+        elif message.type == nas.DETACH_ACCEPT and self.phase is DETACHING:
             self.tell(now, "completes the network's detach")
             self.release(now, DETACHED, "the phone accepted the network's detach")
             self.wipe("its subscription was withdrawn")
@@ -557,17 +558,17 @@ class Subscriber:
             self.fall(now, UNSPECIFIED, "the phone didn't accept the default bearer")
             return
         self.tell(now, "completes the attach: the phone is registered")
-        self.phase, self.bearer, self.procedure = Phase.REGISTERED, "ACTIVE", None
+        self.phase, self.bearer, self.procedure = REGISTERED, "ACTIVE", None
 
     def on_update_complete(self, now):
         self.tell(now, "completes the update")
-        self.phase, self.procedure = Phase.REGISTERED, None
+        self.phase, self.procedure = REGISTERED, None
         if self.from_idle:
             self.fall(now, NORMAL_RELEASE, "the update came from idle and is complete")
 
     def on_session(self, now, message):
         """An ESM message (clause 6)."""
-        if message.type == nas.INFORMATION_RESPONSE and self.phase is Phase.ESM_INFORMATION:
+        if message.type == nas.INFORMATION_RESPONSE and self.phase is ESM_INFORMATION:
             transaction = message.fields["procedure transaction identity"]
             if transaction != self.transaction:
                 self.tell(now, "is dropped", Why.OTHER_TRANSACTION, dropped=True, transaction=transaction, wanted=self.transaction)
@@ -603,7 +604,7 @@ class Subscriber:
         else:
             fields = {"EMM cause": emm(cause)}
         said = Said(nas.ESM_STATUS if message.is_esm else nas.EMM_STATUS, fields, message.is_esm)
-        self.send(now, said if self.phase is Phase.AUTHENTICATING else self.protected(said), "says what is wrong")
+        self.send(now, said if self.phase is AUTHENTICATING else self.protected(said), "says what is wrong")
 
     def status_cause(self, message):
         unknown = message.fault is nas.Fault.UNKNOWN_TYPE
@@ -636,7 +637,7 @@ class Subscriber:
 
     def on_data(self, now, stations):
         """Downlink data waits: an idle phone is paged (clause 5.6.2)."""
-        if self.phase is not Phase.REGISTERED or self.place:
+        if self.phase is not REGISTERED or self.place:
             self.tell(now, "waits, and nothing is sent", Why.NOT_PAGED, dropped=True, subject=DATA, phase=self.phase_text())
             return
         if self.procedure:
@@ -663,13 +664,13 @@ class Subscriber:
         subject, role, ended = BEGUN_ANEW if is_anew else WITHDRAWN
         if self.phase in SERVED and self.place:
             self.tell(now, role + ": the network detaches the phone", subject=subject)
-            self.phase = Phase.DETACHING
+            self.phase = DETACHING
             self.send_detach(now)
             self.start(now, timers.T3422, self.send_detach)
-        elif self.phase is Phase.REGISTERED:
+        elif self.phase is REGISTERED:
             self.tell(now, role + ": the idle phone is forgotten", subject=subject)
             self.wipe("its " + ended)
-        elif self.phase in (Phase.DEREGISTERED, Phase.DETACHING):
+        elif self.phase in (DEREGISTERED, DETACHING):
             self.tell(now, role, Why.NOTHING_TO_END, dropped=True, subject=subject, phase=self.phase_text())
         else:
             self.tell(now, role + (": the attach ends" if is_anew else " in the midst of the attach"), subject=subject)
@@ -749,9 +750,12 @@ def replayed(capability):
     return value
 
 
-def shifted(prefix, octet):
-    """The algorithms from 1 on, as S1AP has them (TS 36.413 clause 9.2.1.40)."""
-    return identities.algorithms(identities.numbered(prefix, 1), octet << 1 & 0xFF)
+@functools.lru_cache(1 << 8)
+def shifted(capability):
+    """The capability as S1AP has it: the algorithms from 1 on (TS 36.413 clause 9.2.1.40)."""
+    encryption, integrity = (identities.algorithms(identities.numbered(prefix, 1), octet << 1 & 0xFF)
+                             for prefix, octet in zip(("EEA", "EIA"), capability))
+    return {"encryption algorithms": encryption, "integrity algorithms": integrity}
 
 
 @functools.lru_cache(1 << 8)

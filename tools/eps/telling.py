@@ -2,8 +2,8 @@
 import dataclasses
 
 import s1ap
-from eps import macs, messages, nas
-from eps.elements import BOTH_IDS, CAUSE, ENB_ID, MME_ID, NAS_PDU, SETUP_LIST
+from eps import macs, messages, nas, writing
+from eps.elements import BOTH_IDS, CAUSE, ENB_ID, MME_ID
 from eps.reasons import FORGERIES, REPLAYS, Mark, Why
 
 
@@ -35,7 +35,7 @@ class Telling:
         return Mark.FORGED if self.why in FORGERIES else None
 
 
-@dataclasses.dataclass(slots=True)
+@dataclasses.dataclass(slots=True, eq=False)
 class Said:
     """A NAS message that is expected: its type and its fields, and how it is protected, by header, vector's KASME and count."""
     type: int
@@ -46,11 +46,28 @@ class Said:
     count: int | None = None
 
     def under(self, header, context):
-        """The same, protected under the context's next downlink count."""
-        return Said(self.type, self.fields, self.is_esm, header, context.kasme, context.spend())
+        """It is protected under the context's next downlink count."""
+        self.header, self.kasme, self.count = header, context.kasme, context.spend()
+        return self
+
+    def __eq__(self, other):
+        """Whether another message says the same, whatever protects it: one that is expected, or one that was read."""
+        is_read = isinstance(other, nas.Plain) and not other.fault
+        return (is_read or isinstance(other, Said)) and self.type == other.type and self.fields == other.fields
+
+    def is_in(self, octets, is_right):
+        """Whether a NAS message is as expected; `is_right` says whether a MAC is."""
+        protected = nas.split(octets)
+        plain = nas.decode_plain(protected.inner if protected else octets, nas.DOWN)
+        if self != plain or self.is_esm != plain.is_esm or plain.spare:
+            return False
+        if protected is None:
+            return self.header == 0
+        return (protected.header == self.header and protected.sequence == self.count & 0xFF
+                and is_right(self.kasme, self.count, nas.DOWN, protected.covered(), protected.mac))
 
     def differences(self, octets, is_right):
-        """How a NAS message isn't as expected, in words; `is_right` says whether a MAC is."""
+        """How a NAS message isn't as expected, in words."""
         protected = nas.split(octets)
         plain = nas.decode_plain(protected.inner if protected else octets, nas.DOWN)
         if (plain.type, plain.is_esm) != (self.type, self.is_esm):
@@ -126,23 +143,40 @@ class Expected:
             parts.append("with %s%s" % (plain.name, " %s" % cause if cause else ""))
         return " ".join(parts)
 
+    def is_sent(self, owner, station, octets, is_right):
+        """Whether a message that was sent is this one; `is_right` says whether a MAC is."""
+        if owner != self.owner or station != self.station:
+            return False
+        return writing.is_written(self, octets, is_right) or self.is_read(octets, is_right)
+
+    def is_read(self, octets, is_right):
+        """The same of a message by what is read of it."""
+        message = messages.decode(octets)
+        if message.fault or message.kind != self.kind:
+            return False
+        if not message.is_in_order() or message.values_without_nas() != self.values:
+            return False
+        carried = message.nas()
+        if carried is not None if self.said is None else carried is None or not self.said.is_in(carried, is_right):
+            return False
+        writing.learn(self, message)
+        return True
+
     def differences(self, owner, station, octets, is_right=macs.is_right):
-        """How a message that was sent isn't this one, in words; nothing where it is. `is_right` says whether a MAC is."""
+        """How a message that was sent isn't this one, in words; nothing where it is."""
         if (owner, station) != (self.owner, self.station):
             yield "it is for %s at station %d, not for %s at station %d" % (owner, station, self.owner, self.station)
         message = messages.decode(octets)
-        if message.fault or (message.code, message.outcome) != self.kind:
+        if message.fault or message.kind != self.kind:
             yield "it is %s, not %s" % (message.name, self.name())
             return
-        if not messages.is_in_order(message):
+        if not message.is_in_order():
             yield "its elements aren't written as in the profile"
         yield from self.elements(message, is_right)
 
     def elements(self, message, is_right):
         """How its elements aren't as expected; the NAS message by its content."""
-        found, carried = {number: value for number, value in message.values.items() if number != NAS_PDU}, message.nas()
-        if found.get(SETUP_LIST):
-            found[SETUP_LIST] = [{name: value for name, value in item.items() if name != "NAS-PDU"} for item in found[SETUP_LIST]]
+        found, carried = message.values_without_nas(), message.nas()
         if found != self.values:
             yield from unlike("", *({messages.name_of(number): value for number, value in values.items()}
                                     for values in (self.values, found)))
@@ -155,12 +189,11 @@ class Expected:
 # --- Messages of the MME ---
 
 
-def with_ids(mme_id, enb_id, **_):
+DOWNLINK, RELEASE = (s1ap.DOWNLINK_NAS, 0), (s1ap.RELEASE, 0)
+
+
+def with_ids(mme_id, enb_id):
     return {number: value for number, value in ((MME_ID, mme_id), (ENB_ID, enb_id)) if value is not None}
-
-
-def release_values(mme_id, enb_id, cause):
-    return {BOTH_IDS: {"pair": {"MME UE S1AP ID": mme_id, "eNB UE S1AP ID": enb_id}}, CAUSE: cause}
 
 
 def cause(text):
@@ -176,36 +209,34 @@ RADIO_UNSPECIFIED, UNKNOWN_ID, UNKNOWN_PAIR = (cause("radioNetwork " + name) for
 NOT_COMPATIBLE = cause("protocol message-not-compatible-with-receiver-state")
 
 
-@dataclasses.dataclass(slots=True)
 class Now:
-    """An event under way: its line, its second, the station and the message that was heard with its ids, and what comes of it."""
-    line: int
-    second: int
-    station: int | None = None
-    message: messages.Message | None = None
-    mme_id: int | None = None
-    enb_id: int | None = None
-    sent: list = dataclasses.field(default_factory=list)
-    tellings: list = dataclasses.field(default_factory=list)
+    """An event under way: its line, its second, the station and the message that was heard, its kind and its ids, and what comes of
+    it."""
+    message = kind = mme_id = enb_id = None
+
+    def __init__(self, line, second, station=None):
+        self.line, self.second, self.station, self.sent, self.tellings = line, second, station, [], []
 
     def hear(self, octets):
         """A message was heard."""
         self.message = message = messages.decode(octets)
-        self.mme_id, self.enb_id = message.mme_id(), message.values.get(ENB_ID)
+        self.kind, (self.mme_id, self.enb_id) = message.kind, message.own_ids()
 
     def tell(self, owner, role, why=None, dropped=False, lines=(), subject=None, **facts):
         self.tellings.append(Telling(owner, self.second, subject, role, why, facts, dropped, tuple(lines)))
 
     def send(self, owner, station, kind, values, role, said=None, repeat=None):
+        """A message is owed."""
         self.sent.append(Expected(owner, station, self.second, kind, values, said, role, repeat))
 
     def send_nas(self, owner, place, said, role, repeat=None):
         """DOWNLINK NAS TRANSPORT by a connection."""
-        values = with_ids(place.mme_id, place.enb_id)
-        self.send(owner, place.station, (s1ap.DOWNLINK_NAS, 0), values, role, said, repeat)
+        values = {MME_ID: place.mme_id, ENB_ID: place.enb_id}
+        self.sent.append(Expected(owner, place.station, self.second, DOWNLINK, values, said, role, repeat))
 
     def send_release(self, owner, place, why, role):
-        self.send(owner, place.station, (s1ap.RELEASE, 0), release_values(place.mme_id, place.enb_id, why), role)
+        values = {BOTH_IDS: {"pair": {"MME UE S1AP ID": place.mme_id, "eNB UE S1AP ID": place.enb_id}}, CAUSE: why}
+        self.sent.append(Expected(owner, place.station, self.second, RELEASE, values, None, role))
 
     def send_error(self, owner, why, with_received_ids=True):
         """ERROR INDICATION to the sender, with the ids that it sent, or without."""
@@ -215,6 +246,14 @@ class Now:
     def send_switch_failure(self, owner, why):
         values = with_ids(self.mme_id, self.enb_id) | {CAUSE: why}
         self.send(owner, self.station, (s1ap.PATH_SWITCH, 2), values, "refuses the switch")
+
+
+class BriefNow(Now):
+    """The same, of which only that is told which has a reason."""
+
+    def tell(self, owner, role, why=None, dropped=False, lines=(), **facts):
+        if why:
+            super().tell(owner, role, why, dropped, lines, **facts)
 
 
 @dataclasses.dataclass(slots=True)

@@ -50,26 +50,25 @@ class Alarms:
     """When which owner's timer may end: owners are asked again, so that one too many does no harm."""
 
     def __init__(self):
-        self.heap, self.known = [], set()
+        self.seconds, self.keys = [], {}  # a heap of the seconds with an end, and of each the keys of the owners
 
     def note(self, second, key):
         """An owner's timer ends at a second; `key` orders owners, and is how they are found."""
-        if (second, key) not in self.known:
-            self.known.add((second, key))
-            heapq.heappush(self.heap, (second, key))
+        keys = self.keys.get(second)
+        if keys is None:
+            keys = self.keys[second] = set()
+            heapq.heappush(self.seconds, second)
+        keys.add(key)
 
     def renew(self, ends):
         """Knows these ends, each a second and a key, and no others."""
-        self.heap, self.known = [], set()
+        self.seconds, self.keys = [], {}
         for second, key in ends:
             self.note(second, key)
 
     def due(self, until):
         """The first second with an end, not after this one, and the keys of the owners there, in their order; or None."""
-        if not self.heap or self.heap[0][0] > until:
+        if not self.seconds or self.seconds[0] > until:
             return None
-        second, keys = self.heap[0][0], []
-        while self.heap and self.heap[0][0] == second:
-            self.known.discard(self.heap[0])
-            keys.append(heapq.heappop(self.heap)[1])
-        return second, keys
+        second = heapq.heappop(self.seconds)
+        return second, sorted(self.keys.pop(second))

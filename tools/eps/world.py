@@ -28,12 +28,19 @@ FAULTS = {Fault.SYNTAX: (Why.SYNTAX, SYNTAX), Fault.MISSING_ELEMENT: (Why.MISSIN
           Fault.REFUSED_ELEMENT: (Why.REFUSED_ELEMENT, ABSTRACT), Fault.REPEATED_ELEMENT: (Why.REPEATED_ELEMENT, FALSE)}
 STATION = "the station"
 NOTICES = {"data": "downlink data", "cancel": "the end of a subscription"}
-NEVER_ANSWERED = ((s1ap.ERROR, 0), (s1ap.RESET, 1))
+SETUP, INITIAL_UE, RESET_REQUEST = (s1ap.SETUP, 0), (s1ap.INITIAL_UE, 0), (s1ap.RESET, 0)
+NEVER_ANSWERED = frozenset({(s1ap.ERROR, 0), (s1ap.RESET, 1)})
+OF_MME, OF_STATION = (frozenset(kind for kind, form in messages.FORMS.items() if form.sender is sender)
+                      for sender in (Sender.MME, Sender.STATION))
+OF_PHONES = OF_STATION - {SETUP, RESET_REQUEST}
 
 
 class State(enum.Enum):
     """A station's state (docs/TABLE.md, "Station")."""
     DOWN, UP, READY = "down", "up", "ready"
+
+
+DOWN, UP, READY = State
 
 
 class Stations:
@@ -43,14 +50,14 @@ class Stations:
         self.states, self.areas = {}, {}
 
     def state(self, station):
-        return self.states.get(station, State.DOWN)
+        return self.states.get(station, DOWN)
 
     def set(self, station, state, areas=()):
         self.states[station], self.areas[station] = state, areas
 
     def broadcasting(self, area):
         """The stations that are set up and broadcast a tracking area, by number."""
-        return [station for station in sorted(self.states) if self.state(station) is State.READY and any(
+        return [station for station in sorted(self.states) if self.state(station) is READY and any(
             item["TAC"] == area["TAC"] and area["PLMN"] in item["broadcast PLMNs"] for item in self.areas[station])]
 
 
@@ -61,9 +68,9 @@ def order_of(owner):
 
 
 class World:
-    """The network of a trace's head; `is_right` says whether a MAC is."""
+    """The network of a trace's head; `is_right` says whether a MAC is, and `now` is what takes what is told of an event."""
 
-    def __init__(self, head, is_right=macs.is_right):
+    def __init__(self, head, is_right=macs.is_right, now=Now):
         self.network, profiles = provisioned(head)
         self.alarms, self.stations, self.strangers = Alarms(), Stations(), {}
         # By station the slots that may be connected or paged there, and the eNB ids of strangers: one too many does no harm.
@@ -71,7 +78,8 @@ class World:
         self.is_right = is_right
         self.subscribers = [self.subscriber(profile) for profile in profiles]
         self.by_imsi = {each.profile.imsi: each for each in self.subscribers}
-        self.second = 0
+        self.second, self.now = 0, now
+        self.acts = {word: getattr(self, "on_" + word) for word in runs.EVENTS}
 
     def subscriber(self, profile):
         return Subscriber(self.network, profile, self.alarms, self.near, self.is_right)
@@ -99,41 +107,41 @@ class World:
 
     def take(self, event):
         """What comes of an event: refusals or states as `refused K` or `state ..`, messages that are owed, and tellings."""
-        now = Now(event.line, self.second, event.station)
-        answer = getattr(self, "on_" + event.word)(now, event)
+        now = self.now(event.line, self.second, event.station)
+        answer = self.acts[event.word](now, event)
         if len(now.sent) > 1:
             now.sent.sort(key=lambda expected: (expected.second, order_of(expected.owner)))
         return answer, now.sent, now.tellings
 
     def on_up(self, now, event):
-        if self.stations.state(event.station) is not State.DOWN:
+        if self.stations.state(event.station) is not DOWN:
             now.tell(station_owner(now), "connects", Why.CONNECTED_ALREADY, dropped=True, subject=STATION, station=event.station)
             return "refused %d" % ALREADY_UP
-        self.stations.set(event.station, State.UP)
+        self.stations.set(event.station, UP)
         now.tell(station_owner(now), "connects", subject=STATION)
         return None
 
     def on_lost(self, now, event):
-        if self.stations.state(event.station) is State.DOWN:
+        if self.stations.state(event.station) is DOWN:
             now.tell(station_owner(now), "is lost", Why.NOT_CONNECTED, dropped=True, subject=STATION, station=event.station)
             return "refused %d" % NOT_UP
-        self.stations.set(event.station, State.DOWN)
+        self.stations.set(event.station, DOWN)
         now.tell(station_owner(now), "is lost, and with it all its connections", subject=STATION)
         self.station_gone(now, "was lost", SCTP)
         return None
 
     def on_data(self, now, event):
-        return self.on_notice(now, event, lambda subscriber: subscriber.on_data(now, self.stations))
+        return self.on_notice(now, event, Subscriber.on_data, self.stations)
 
     def on_cancel(self, now, event):
-        return self.on_notice(now, event, lambda subscriber: subscriber.on_cancel(now, event.is_anew))
+        return self.on_notice(now, event, Subscriber.on_cancel, event.is_anew)
 
-    def on_notice(self, now, event, act):
+    def on_notice(self, now, event, act, more):
         subscriber = self.by_imsi.get(event.imsi)
         if subscriber is None:
             now.tell("", "is refused", Why.NO_SUCH_IMSI, dropped=True, subject=NOTICES[event.word], imsi=event.imsi)
             return "refused %d" % UNKNOWN_IMSI
-        self.acting(now, subscriber, lambda: act(subscriber))
+        self.acting(now, act, subscriber, more)
         return None
 
     def on_show(self, _, event):
@@ -154,38 +162,40 @@ class World:
                 self.strangers[key[1:]].on_time(now)
         else:
             subscriber = self.subscribers[key[1]]
-            self.acting(now, subscriber, lambda: subscriber.on_time(now))
+            self.acting(now, Subscriber.on_time, subscriber)
 
     @staticmethod
-    def acting(now, subscriber, act):
+    def acting(now, act, subscriber, *more):
         """A subscriber's act; where it needs a count that there isn't, the connection ends instead."""
         before = len(now.sent)
         try:
-            act()
+            act(subscriber, now, *more)
         except Spent:
             subscriber.spends_last(now, before)
 
     # --- Octets of a station ---
 
     def on_in(self, now, event):
-        state = self.stations.state(event.station)
-        if state is State.DOWN:
+        state = self.stations.states.get(event.station, DOWN)
+        if state is DOWN:
             now.tell(station_owner(now), "isn't heard", Why.NOT_CONNECTED, dropped=True, station=event.station)
             return "refused %d" % NOT_UP
         now.hear(event.octets)
-        kind = now.message.code, now.message.outcome
+        kind = now.kind
         if now.message.fault:
             self.on_fault(now)
-        elif kind == (s1ap.SETUP, 0):
+        elif state is READY and kind in OF_PHONES:
+            self.on_phone(now, kind)
+        elif kind == SETUP:
             self.on_setup(now)
         elif kind in NEVER_ANSWERED:
             now.tell(station_owner(now), "is taken without an answer")
-        elif now.message.form.sender is Sender.MME:
+        elif kind in OF_MME:
             self.not_compatible(now, Why.MME_MESSAGE)
-        elif state is State.UP:
+        elif state is UP:
             self.not_compatible(now, Why.NOT_SET_UP, station=event.station)
         else:
-            self.on_ready(now, kind)
+            self.on_reset(now, now.message.get(RESET_TYPE))
         return None
 
     @staticmethod
@@ -211,12 +221,12 @@ class World:
         areas = now.message.get(SUPPORTED_TAS)
         broadcast = sorted({plmn for item in areas for plmn in item["broadcast PLMNs"]})
         if self.network.plmn in broadcast:
-            self.stations.set(now.station, State.READY, areas)
+            self.stations.set(now.station, READY, areas)
             now.tell(station_owner(now), "sets up the interface")
             served = {"PLMNs": [self.network.plmn], "MME groups": [self.network.group], "MME codes": [self.network.code]}
             now.send(station_owner(now), now.station, (s1ap.SETUP, 1), {GUMMEIS: [served], CAPACITY: 255}, "says which MME this is")
         else:
-            self.stations.set(now.station, State.UP)
+            self.stations.set(now.station, UP)
             now.tell(station_owner(now), "is refused", Why.OTHER_PLMN, broadcast=", ".join(broadcast), network=self.network.plmn)
             now.send(station_owner(now), now.station, (s1ap.SETUP, 2), {CAUSE: cause("misc unknown-PLMN")}, "refuses the set-up")
 
@@ -240,15 +250,6 @@ class World:
         """The subscribers that are connected or paged at a station, in the order of their slots."""
         self.near[station] = {slot for slot in self.near[station] if self.subscribers[slot].is_near(station)}
         return [self.subscribers[slot] for slot in sorted(self.near[station])]
-
-    def on_ready(self, now, kind):
-        """A phone's message, or a RESET, of a station that is set up."""
-        if kind == (s1ap.RESET, 0):
-            self.on_reset(now, now.message.get(RESET_TYPE))
-        elif kind == (s1ap.INITIAL_UE, 0):
-            self.on_initial(now, now.message.nas())
-        else:
-            self.on_ids(now, kind)
 
     def on_reset(self, now, reset_type):
         """RESET of the interface or of a part of it (TS 36.413 clause 8.7.1)."""
@@ -294,9 +295,8 @@ class World:
         slot = tmsi // IDS_OF_A_SLOT if tmsi is not None else len(self.subscribers)
         return self.subscribers[slot] if slot < len(self.subscribers) else None
 
-    def named(self, now, octets):
-        """The subscriber that an INITIAL UE MESSAGE names, or None (docs/PROFILE.md, Identities)."""
-        message = nas.decode_emm(nas.named_message(octets), nas.UP)
+    def named(self, now, message):
+        """The subscriber that the NAS message in an INITIAL UE MESSAGE names, or None (docs/PROFILE.md, Identities)."""
         if message.fault:
             return None
         if message.type == nas.SERVICE_REQUEST:
@@ -311,13 +311,14 @@ class World:
         return self.slot_of_tmsi(self.network.tmsi_of(identity["GUTI"]))
 
     def on_initial(self, now, octets):
-        subscriber = self.named(now, octets)
+        message = nas.decode_emm(nas.named_message(octets), nas.UP)
+        subscriber = self.named(now, message)
         if subscriber:
-            self.acting(now, subscriber, lambda: subscriber.on_initial(now, octets))
+            self.acting(now, Subscriber.on_initial, subscriber, octets, message)
             return
         stranger = self.stranger(now.station, now.enb_id)
         holder = stranger.holder
-        stranger.on_first(now, octets)
+        stranger.on_first(now, message)
         if holder:
             holder.on_displaced(now, stranger.mme_id)
 
@@ -327,23 +328,29 @@ class World:
         self.waiting[station].add(enb_id)
         return self.strangers[station, enb_id]
 
-    def on_ids(self, now, kind):
-        """A message that names an association by its MME UE S1AP ID."""
-        if now.mme_id < FIRST_STRANGER:
-            subscriber = self.slot_of_tmsi(now.mme_id)
-            if subscriber is None:
-                closed(now, station_owner(now), kind)
+    def on_phone(self, now, kind):
+        """A phone's message, of a station that is set up: a first one, or one that names an association by its MME UE S1AP ID."""
+        if kind == INITIAL_UE:
+            self.on_initial(now, now.message.nas())
+        elif now.mme_id < FIRST_STRANGER:
+            slot = now.mme_id // IDS_OF_A_SLOT
+            if slot < len(self.subscribers):
+                self.acting(now, Subscriber.on_message, self.subscribers[slot])
             else:
-                self.acting(now, subscriber, lambda: subscriber.on_message(now))
-            return
+                closed(now, station_owner(now), kind)
+        else:
+            self.on_stranger(now)
+
+    def on_stranger(self, now):
+        """A message with a stranger's id."""
         stranger = self.stranger(*stranger_of(now.mme_id))
         if stranger.holder:
-            self.acting(now, stranger.holder, lambda: stranger.holder.on_message(now))
+            self.acting(now, Subscriber.on_message, stranger.holder)
             return
         claimed = stranger.on_message(now, self.by_imsi)
         if claimed:
             attach = stranger.attach
-            self.acting(now, claimed, lambda: claimed.on_claim(now, stranger.place, attach.message, attach.area))
+            self.acting(now, Subscriber.on_claim, claimed, stranger.place, attach.message, attach.area)
 
 
 def station_owner(now):
