@@ -22,14 +22,14 @@ import time
 import unittest
 
 sys.path.insert(0, str(pathlib.Path(__file__).resolve().parent))
-from gateway_world import (ADDRESS, GATEWAY, INTERNET, MACHINE, NET, PATIENCE, PROGRAM, QUIET, STATIONS, Phone, World, checksum,
+from gateway_world import (ADDRESS, GATEWAY, INTERNET, MACHINE, NET, PATIENCE, QUIET, STATIONS, Phone, World, checksum,
                            gtpu, inside, lay, load_modules, lte, packet, phones, sh, until)
 from sctp_inside import Named, name_of
 from test_lab import DOCUMENT as LAB
 from test_lab import blocks
 from tools import TOP
 
-STUCK = 400  # seconds in which no test ended
+STUCK = 600  # seconds in which no test ended
 MUTATIONS = 10000
 OCTETS = 20_000_000  # of a transfer by TCP
 PORTS = itertools.count(5000)
@@ -417,10 +417,7 @@ class Whole(unittest.TestCase):
 
     def test_echo(self):
         """From any port."""
-        plane = self.world.planes[0]
-        plane.stranger.settimeout(PATIENCE)
-        plane.stranger.sendto(gtpu.packed(gtpu.ECHO_REQUEST, 0, b"", b"\x12\x34"), (ADDRESS, 2152))
-        octets, sender = plane.stranger.recvfrom(100)
+        octets, sender = self.world.planes[0].is_echoed(0x1234)
         self.assertEqual((octets.hex(), sender), ("32020006000000001234" + "0000" + "0e00", (ADDRESS, 2152)))
 
     def test_headers(self):
@@ -492,8 +489,8 @@ class Whole(unittest.TestCase):
             for _ in range(chance.randrange(1, 4) if octets else 0):
                 octets[chance.randrange(min(len(octets), 24))] = chance.randrange(256)
             plane.send(bytes(octets))
-            if not number % 200:
-                time.sleep(0.02)
+            if not number % 100:
+                plane.is_echoed(number)
         until(lambda: self.world.metric("dropped_total") > before + MUTATIONS // 4, lambda: self.world.fetch("/metrics"))
         self.world.is_tunnel(self.phone, 0, self.phone.b)
         self.passes()

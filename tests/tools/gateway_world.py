@@ -28,7 +28,7 @@ FRONT, GATEWAY = tools.TOP / "tools" / "front", tools.TOP / "tools" / "gateway"
 ADDRESS, INTERNET, PREFIX = "10.0.0.100", "198.51.100.2", "10.45.0.0/16"
 STATIONS = ("10.1.0.2", "10.2.0.2")
 MACHINE, NET = "core", "net"
-PATIENCE = 120  # seconds for what takes a moment where the machine has nothing else to do
+PATIENCE = 240  # seconds for what takes a moment where the machine has nothing else to do
 QUIET = 0.5  # seconds in which what isn't to come would have come
 LONG_TICK = "86400"  # so that no timer of the MME's ends but where a test has it
 MODULES = ("drivers/net/veth", "drivers/net/tun", "drivers/net/gtp", "net/netfilter/nfnetlink", "net/netfilter/ipset/ip_set",
@@ -136,6 +136,16 @@ class Plane:
             os.write(phone.tun, message.body)
         else:
             self.heard.append((message.kind, message.teid, sender[0], message.body))
+
+    def is_echoed(self, number):
+        """Waits until the gateway has taken all that was sent to it before now, and answers an echo with this sequence number; by
+        another port of the station's. The answer, and who gave it."""
+        self.stranger.settimeout(PATIENCE)
+        self.stranger.sendto(gtpu.packed(gtpu.ECHO_REQUEST, 0, b"", number.to_bytes(2, "big")), (ADDRESS, 2152))
+        octets, sender = b"", None
+        while octets[8:10] != number.to_bytes(2, "big"):
+            octets, sender = self.stranger.recvfrom(100)
+        return octets, sender
 
     def has_heard_all(self):
         """Waits until all that was sent to it before now is heard: an echo comes after it."""

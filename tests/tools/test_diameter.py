@@ -234,8 +234,9 @@ class First(unittest.TestCase):
 
     def test_others(self):
         answer = avp(RESULT, 2001) + avp(258, S6A)
-        for flags, code, more, body, told in ((R, DWR, 0, b"", "a request"), (0, DWR, 0, answer, "an answer"),
-                                              (0, CER, 1, answer, "an answer"), (0, CER, 0, bytes(4), "a message that can't be read")):
+        for flags, code, more, body, told in (
+                (R, DWR, 0, b"", "a request"), (0, DWR, 0, answer, "an answer"), (0, CER, 1, answer, "an answer"),
+                (0, CER, 0, bytes(4), "a message that can't be read")):
             connected, wire, (hop, end) = self.begun()
             wire.heard(hss.message(flags, code, 0, ((hop + more) % (1 << 32), end), body))
             self.assertTrue(wire.is_closed)

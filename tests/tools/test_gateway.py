@@ -1,10 +1,10 @@
 """tools/gateway without a kernel: what it reads, what it decides, what it hands out, and what it refuses."""
+import concurrent.futures
 import contextlib
 import errno
 import io
 import ipaddress
 import os
-import pathlib
 import random
 import re
 import socket
@@ -273,6 +273,26 @@ class Tunnels(Case):
         self.assertEqual(device.phones, 1)
 
 
+    def test_adopted_within_a_switch(self):
+        """A gateway that was killed within a path switch leaves two contexts of a phone: one of them stays, whichever is wanted."""
+        for wanted, device in ((phones.Tunnel(STATION, 7), 10), (phones.Tunnel(ANOTHER, 8), 11)):
+            self.setUp()
+            for station in (STATION, ANOTHER):
+                self.devices.of(station, set())
+            both = [self.CONTEXT, Context(11, socket.inet_aton(IP), TEID, socket.inet_aton(ANOTHER), 8)]
+            self.gateway.found, self.kernel.routes = list(both), {(socket.inet_aton(IP), 11)}
+            self.gateway.take_all(self.subscribers, {IMSI: wanted})
+            there = set(both)
+            for what, item in self.acts():
+                if what == "add context":
+                    self.assertNotIn((item.device, item.own_teid), {(each.device, each.own_teid) for each in there})
+                    there.add(item)
+                elif what == "delete context":
+                    there = {each for each in there if (each.device, each.own_teid) != item}
+            self.assertEqual([(each.device, each.station_teid) for each in there], [(device, wanted.teid)])
+            self.assertEqual([each.phones for each in self.devices.all], [device == 10, device == 11])
+
+
 class Idle(Case):
     """Packets to phones without a tunnel."""
 
@@ -360,10 +380,12 @@ class Idle(Case):
         self.assertEqual(self.drops(), {("to phones", "nobody's address"): 1, ("to phones", "not IPv4"): 3})
 
     def test_before_the_front_tells(self):
-        """What comes stays where it is until it is known whose it is."""
-        self.gateway.is_known = False
-        self.comes(packet(INTERNET, IP))
-        self.assertEqual((len(self.gateway.idle), self.drops()), (0, {}))
+        """What comes stays where it is until it is known whose it is: it is looked at from then on."""
+        other, begun = gateway.Gateway(self.devices, phones.Phones(ADDRESS, NETWORK), self.voice), []
+        other.when_known = lambda: begun.append(other.is_known)
+        for _ in range(2):
+            other.take_all(self.subscribers, {})
+        self.assertEqual(begun, [True])
 
 
 class Stations(Case):
@@ -574,11 +596,11 @@ class Front:
         test.addCleanup(self.close)
         self.listener.bind(self.path)
         self.listener.listen(8)
-        self.listener.settimeout(20)
+        self.listener.settimeout(120)
 
     def accept(self):
         guest, _ = self.listener.accept()
-        guest.settimeout(20)
+        guest.settimeout(120)
         self.guests.append(guest)
         return guest
 
@@ -771,11 +793,10 @@ class Given(tools.InFolder):
 
     def test_at_once(self):
         """Several at a time: nobody gets what another has."""
-        lists = [self.file("list%d" % number, "0010100000%05d\n" % number) for number in range(4)]
-        started = [subprocess.Popen([GATEWAY, "--sims", each, "--given", self.given, ADDRESS, "10.45.0.0/16"],
-                                    stdout=subprocess.PIPE, text=True) for each in lists]
-        lines = [process.communicate(timeout=60)[0].strip() for process in started]
-        self.assertEqual(len({line.split(" ")[2] for line in lines}), 4)
+        with concurrent.futures.ThreadPoolExecutor(16) as pool:
+            lines = "".join(pool.map(lambda number: given.lines_for(
+                ["0010100000%05d" % number], str(self.given), ADDRESS, NETWORK), range(64))).splitlines()
+        self.assertEqual(len({line.split(" ")[2] for line in lines}), 64)
         self.assertEqual(sorted(self.given.read_text().splitlines()), sorted(lines))
 
 
@@ -805,7 +826,7 @@ class Words(unittest.TestCase):
     def test_nothing_here(self):
         """Where there is no such driver, or it may not be asked, that is said, and nothing is left."""
         done = subprocess.run(["unshare", "--net", "--user", "--map-current-user", GATEWAY, "control", "127.0.0.1", "10.45.0.0/16"],
-                              capture_output=True, text=True, timeout=60, check=False)
+                              capture_output=True, text=True, timeout=300, check=False)
         if "unshare" in done.stderr:
             self.skipTest("no namespaces here: " + done.stderr.strip())
         self.assertIn(done.returncode, (2, 75))
@@ -827,10 +848,10 @@ class Pages(Case):
         self.station(gtpu.packed(gtpu.PACKET, 99, packet(IP)))
 
     def fetched(self, target, host="localhost", method="GET"):
-        with socket.create_connection(self.listener.getsockname(), 20) as asking:
+        with socket.create_connection(self.listener.getsockname(), 120) as asking:
             asking.sendall(("%s %s HTTP/1.1\r\nHost: %s\r\n\r\n" % (method, target, host)).encode())
             asking.setblocking(False)
-            got, end = b"", time.time() + 20
+            got, end = b"", time.time() + 120
             while time.time() < end:
                 timer = self.loop.after(0.01, lambda: None)
                 self.loop.turn()

@@ -16,7 +16,6 @@ from fronted import FRAME, PATIENCE, Running
 sys.path[:0] = [str(tools.TOP / "bench"), str(tools.TOP / "tools")]
 import lte
 import phones
-import s1ap
 from fronting import bearers, followers, limits
 from fronting.journal import Batch
 del sys.path[:2]

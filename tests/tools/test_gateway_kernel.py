@@ -8,15 +8,16 @@ import tempfile
 import unittest
 
 import gateway_inside
+import gateway_world
 import kernel
 import tools
 
-SECONDS = 900  # for a kernel; all tests take under 120 on a machine of their own
+SECONDS = 1800  # for a kernel; all tests take under 120 on a machine of their own
 INSIDE = tools.TOP / "tests" / "tools" / "gateway_inside.py"
 
 
 @unittest.skipIf(kernel.missing(), "no user-mode-linux, kmod, iproute2, lksctp-tools or C compiler")
-@unittest.skipUnless(gateway_inside.PROGRAM.exists(), "the program isn't built (./mme --prove)")
+@unittest.skipUnless(gateway_world.PROGRAM.exists(), "the program isn't built (./mme --prove)")
 class Gateway(unittest.TestCase):
     def test_inside(self):
         names = {gateway_inside.name_of(test) for test in gateway_inside.all_tests()}

@@ -421,9 +421,11 @@ class Files(Sources):
     def test_streams(self):
         """Standard input that can't be read, and output that can't be written."""
         sims = self.private("sims", LINE)
-        for streams, told in (("0>%s" % (self.folder / "out"), "Bad file descriptor"), ("</dev/stdin >/dev/full", "No space left on device")):
-            done = subprocess.run("%s serve %s %s %s" % (tools.TOP / "tools/vectors", sims, self.folder / "store", streams), shell=True,
-                                  input=b"gone %s\n" % IMSI.encode(), capture_output=True, timeout=60, check=False)
+        command = "%s serve %s %s" % (tools.TOP / "tools/vectors", sims, self.folder / "store")
+        for streams, told in (("0>%s" % (self.folder / "out"), "Bad file descriptor"),
+                              ("</dev/stdin >/dev/full", "No space left on device")):
+            done = subprocess.run("%s %s" % (command, streams), shell=True, input=b"gone %s\n" % IMSI.encode(), capture_output=True,
+                                  timeout=60, check=False)
             self.assertEqual((done.returncode, done.stdout), (2, b""))
             self.assertEqual(done.stderr.decode(), "vectors: standard input or output: %s\n" % told)
 

@@ -117,7 +117,7 @@ class Run:
         except OSError as fault:
             raise failed("%s port %d" % (self.address, PORT) if fault.filename is None else fault.filename, fault) from None
         self.asking = self.gateway.asking = Asking(self.loop, self.control, self.voice, self.gateway.hear_states)
-        self.loop.watch(devices.idle, select.EPOLLIN, lambda events: self.gateway.look_at_idle())
+        self.gateway.when_known = lambda: self.loop.watch(devices.idle, select.EPOLLIN, lambda events: self.gateway.look_at_idle())
         if listener is not None:
             Page(self.gateway, self.loop, listener, self.words.page_host)
 
@@ -155,11 +155,14 @@ class Run:
             self.voice.say("ready", "ready: GTP-U at %s port %d for %s; the front's control socket is %s" % (
                 self.address, PORT, self.network, self.control))
             self.say_forwarding()
-            Feed(self.loop, self.control, self.voice, self.gateway)
-            while not self.is_over:
-                self.loop.turn()
-            self.manager.tell(STOPPING=1)
-            self.gateway.devices.remove()
+            try:
+                Feed(self.loop, self.control, self.voice, self.gateway)
+                while not self.is_over:
+                    self.loop.turn()
+                self.manager.tell(STOPPING=1)
+                self.gateway.devices.remove()
+            except (Refused, OSError) as fault:  # tunnels stay in the kernel, and the next run takes them up
+                raise Failed("the gateway can't go on: %s" % fault, NOT_YET) from None
 
     def say_forwarding(self):
         """Says where the kernel forwards nothing."""

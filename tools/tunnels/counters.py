@@ -8,7 +8,7 @@ from tunnels.netlink import ACK, CREATE, DUMP, EXCL, NETFILTER, ROUTE, Netlink, 
 from tunnels.netlink import nested, text
 
 SUBSYSTEM, PROTOCOL_VERSION, REVISION = 6, 7, 4  # linux/netfilter/ipset/ip_set.h
-MAKE, DESTROY, FLUSH, LIST, ADD, DELETE, INDEX_OF = 2, 3, 4, 7, 9, 10, 14
+MAKE, DESTROY, LIST, ADD, DELETE, INDEX_OF = 2, 3, 7, 9, 10, 14
 PROTOCOL, NAME, TYPE, TYPE_REVISION, FAMILY, DATA, ENTRIES, LINE, INDEX = 1, 2, 3, 4, 5, 7, 8, 9, 11
 IP, IPV4, FLAGS, MOST, OCTETS, PACKETS = 1, 1, 8, 19, 24, 25
 IN_ORDER = 0x4000  # of an attribute: its number is in the network's order

@@ -9,10 +9,10 @@ import os
 import socket
 
 from tunnels import links, limits, sockets
-from tunnels.contexts import Context, Contexts
+from tunnels.contexts import Contexts
 from tunnels.counters import Counters
 from tunnels.links import Links, index_of
-from tunnels.netlink import Refused, is_missing, is_there_already
+from tunnels.netlink import Refused, is_there_already
 
 OTHERS, IDLE = "others", "idle"  # the names of what is kept: the socket of whoever has no device, and the device of idle phones
 LOCK = "\0soizkadur gateway %s"  # a name that one process of a network has, for an address and for the name of devices each
@@ -43,23 +43,32 @@ class Devices:
     def begin(self):
         """Takes up what was kept, and removes what another run has left; the contexts that stand."""
         self.lock()
-        self.counters.begin()
         kept = self.kept.take(OTHERS)
         if kept is None:
             self.kept.close()
-        self.others = sockets.made(self.address) if kept is None else socket.socket(fileno=kept)
-        self.others.setblocking(False)
-        if kept is None:
-            self.remove_left()
-            self.kept.keep(OTHERS, self.others.fileno())
-        self.watch(self.others)
-        while kept is not None and (file := self.kept.take(self.name_of(len(self.all) + 1))) is not None:
-            self.take_up(socket.socket(fileno=file))
-        self.begin_idle()
+        try:
+            self.counters.begin()
+            self.begin_sockets(kept)
+            self.begin_idle()
+        except (Refused, OSError):
+            if kept is None:
+                self.remove()
+            raise
         self.kept.close()
         found = list(self.contexts.all())
         self.assign_found(found)
         return [context for context in found if context.device in self.by_index()]
+
+    def begin_sockets(self, kept):
+        """The socket that was kept for others, and those of stations; a new one where none was."""
+        self.others = sockets.made(self.address) if kept is None else socket.socket(fileno=kept)
+        self.others.setblocking(False)
+        self.watch(self.others)
+        if kept is None:
+            self.remove_left()
+            self.kept.keep(OTHERS, self.others.fileno())
+        while kept is not None and (file := self.kept.take(self.name_of(len(self.all) + 1))) is not None:
+            self.take_up(socket.socket(fileno=file))
 
     def lock(self):
         """Keeps a second gateway from this address, which it might bind, and from these devices."""
@@ -112,7 +121,7 @@ class Devices:
         return {device.index: device for device in self.all}
 
     def remove(self):
-        """All goes, as it does in order."""
+        """All goes that was made, as it does in order."""
         self.links.delete([(*self.prefix, None)])
         for device in self.all:
             self.links.remove(device.index)
@@ -120,8 +129,10 @@ class Devices:
             device.socket.close()
         for name in (OTHERS, IDLE):
             self.kept.forget(name)
-        self.others.close()
-        os.close(self.idle)
+        if self.others is not None:
+            self.others.close()
+        if self.idle is not None:
+            os.close(self.idle)
         self.counters.remove()
 
     def close(self):

@@ -16,7 +16,7 @@ from tunnels import gtpu, limits
 from tunnels.contexts import Context
 from tunnels.links import HOST
 from tunnels.netlink import Refused, is_missing
-from tunnels.phones import Phone, Phones, Tunnel, count
+from tunnels.phones import Phone, Tunnel, count
 from tunnels.sockets import PORT
 from tunnels.waiting import Waiting
 
@@ -38,6 +38,7 @@ class Gateway:
         self.errors = Pace(limits.ERRORS_A_SECOND)
         self.begun = time.time()
         self.found, self.is_known = [], False  # the contexts that stood at the start, and whether the phones are known
+        self.when_known = lambda: None  # what is done once they are, by which packets to idle phones are looked at
 
     def drop(self, way, why, phone=None):
         """Counts a packet that goes no further."""
@@ -61,7 +62,9 @@ class Gateway:
             self.devices.counters.delete([phone.packed for phone in gone])
         self.add(subscribers)
         self.adopt()
-        self.is_known = True
+        if not self.is_known:
+            self.is_known = True
+            self.when_known()
         self.apply({phone: tunnels.get(imsi) for imsi, phone in self.phones.by_imsi.items()})
         for phone in self.idle.of:
             phone.asked = float("-inf")  # the front that was asked may be gone
@@ -83,12 +86,13 @@ class Gateway:
             self.devices.counters.add([phone.packed for phone in added])
 
     def adopt(self):
-        """The contexts that stood at the start are those of phones, or go."""
+        """The contexts that stood at the start are those of phones, one of each, or go."""
         by_index, strays, adopted = self.devices.by_index(), [], set()
         for context in self.found:
             phone, device = self.phones.by_teid.get(context.own_teid), by_index[context.device]
             tunnel = Tunnel(socket.inet_ntoa(context.station), context.station_teid)
-            if phone is None or phone.packed != context.phone or device.station != tunnel.station:
+            is_right = phone is not None and phone.packed == context.phone and device.station == tunnel.station
+            if not is_right or phone.tunnel is not None:
                 strays.append((context.device, context.own_teid))
             else:
                 self.set_tunnel(phone, tunnel, device)
@@ -218,7 +222,7 @@ class Gateway:
 
     def look_at_idle(self):
         """Packets to phones without a tunnel."""
-        for _ in range(limits.PACKETS if self.is_known else 0):
+        for _ in range(limits.PACKETS):
             try:
                 packet = os.read(self.devices.idle, 1 << 16)
             except (BlockingIOError, InterruptedError):

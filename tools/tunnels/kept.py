@@ -33,8 +33,8 @@ class Kept:
                 pass
 
     def keep(self, name, file):
-        """Has a file be kept."""
-        self.tell("FDSTORE=1\nFDNAME=%s" % name, [file])
+        """Has a file be kept, whatever may be read of it."""
+        self.tell("FDSTORE=1\nFDPOLL=0\nFDNAME=%s" % name, [file])
 
     def forget(self, name):
         self.tell("FDSTOREREMOVE=1\nFDNAME=%s" % name)

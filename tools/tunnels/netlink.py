@@ -12,7 +12,7 @@ HEADER = struct.Struct("=IHHII")
 ANSWER = struct.Struct("=IH10xi16x")  # a message that says whether a request failed
 NESTED = 0x8000
 KIND = 0x3FFF  # of an attribute's type, without its flags
-SOL_NETLINK, CAP_ACK, STRICT = 270, 10, 12  # what answers leave out, and that dumps heed what is asked for
+SOL_NETLINK, CAP_ACK = 270, 10  # an answer leaves out what it is to
 ROOM, PIECE = 1 << 22, 1 << 18  # octets of answers that may wait, and of one read
 TOGETHER, TOGETHER_OCTETS = 50, 1 << 15  # messages of a write, and about how many octets
 SECONDS = 20  # for the kernel to answer

@@ -2,8 +2,6 @@
 import ipaddress
 import typing
 
-WORDS = 4  # of a subscriber, as the front tells it
-
 
 class Fault(Exception):
     """What the front says that can't be taken; its text says why."""
