@@ -86,7 +86,7 @@ class GateLeaves(test_proving.Clone):
     def gate(self):
         """Runs the gate; its status, and the line that it ends with."""
         done = subprocess.run([self.top / ".ci" / "run"], env=self.environment(), stdin=subprocess.DEVNULL, capture_output=True,
-                              text=True, timeout=60, check=False)
+                              text=True, timeout=300, check=False)
         return done.returncode, done.stdout.splitlines()[-1]
 
     def passes(self):
@@ -96,7 +96,7 @@ class GateLeaves(test_proving.Clone):
         """Whether what the gate compiled would be taken."""
         code = "import library; print(library.left_by_gate(%r) is not None)" % processor
         done = subprocess.run([sys.executable, "-B", "-c", code], cwd=self.top / "tools" / "program", env=self.environment(),
-                              capture_output=True, text=True, check=True, timeout=60)
+                              capture_output=True, text=True, check=True, timeout=300)
         return done.stdout == "True\n"
 
     def test_taken(self):

@@ -148,7 +148,7 @@ class Reset(unittest.TestCase):
             message = messages.decode(bytes.fromhex(line.split()[2]))
             self.assertEqual((message.fault, message.name), (None, "RESET"))
             self.assertEqual(S1AP.listed(S1AP.read(message.octets)), items or None)
-            self.assertTrue(messages.is_in_order(message))
+            self.assertTrue(message.is_in_order())
 
     @unittest.skipIf(dissection.IS_MISSING, "no tshark")
     def test_dissected(self):
