@@ -23,7 +23,7 @@ sys.path.insert(0, str(tools.TOP / "tools"))
 import runs
 from fronting import saying
 from fronting.loop import Loop
-from tunnels import asking, command, feed, gateway, given, gtpu, limits, netlink, page, phones, sockets
+from tunnels import asking, command, feed, gateway, given, gtpu, kept, limits, netlink, page, phones, sockets
 from tunnels.contexts import Context
 from tunnels.devices import Device, Devices
 del sys.path[0]
@@ -728,6 +728,41 @@ class Asked(unittest.TestCase):
         os.unlink(self.front.path)
         self.asking.page(IMSI)
         self.assertEqual(len(self.asking.waiting), 0)
+
+
+class Keeping(unittest.TestCase):
+    """What the service manager keeps (sd_notify(3), sd_listen_fds(3))."""
+
+    def test_taken(self):
+        """By their names, where they are meant for this process; what nobody takes is closed."""
+        reading, writing = os.pipe()
+        self.addCleanup(os.close, writing)
+        given_to = {"LISTEN_PID": str(os.getpid()), "LISTEN_FDS": "1", "LISTEN_FDNAMES": "idle:more"}
+        with unittest.mock.patch.object(kept, "FIRST", reading):
+            found = kept.Kept(given_to)
+            self.assertEqual((found.files, given_to), ({"idle": reading}, {}))
+            self.assertEqual((found.take("others"), found.take("idle"), found.take("idle")), (None, reading, None))
+            again = kept.Kept({"LISTEN_PID": str(os.getpid()), "LISTEN_FDS": "1", "LISTEN_FDNAMES": "idle"})
+            again.close()
+        with self.assertRaises(OSError):
+            os.fstat(reading)
+        for words in ({}, {"LISTEN_PID": "1", "LISTEN_FDS": "1", "LISTEN_FDNAMES": "idle"},
+                      {"LISTEN_PID": str(os.getpid()), "LISTEN_FDS": "x", "LISTEN_FDNAMES": "idle"}):
+            self.assertEqual(kept.Kept(dict(words)).files, {})
+
+    def test_kept(self):
+        manager = self.enterContext(socket.socket(socket.AF_UNIX, socket.SOCK_DGRAM))
+        path = self.enterContext(tempfile.TemporaryDirectory()) + "/notify"
+        manager.bind(path)
+        manager.settimeout(120)
+        keeping = kept.Kept({"NOTIFY_SOCKET": path})
+        keeping.keep("mme-1", manager.fileno())
+        octets, files, _, _ = socket.recv_fds(manager, 1000, 4)
+        self.assertEqual((octets, len(files)), (b"FDSTORE=1\nFDPOLL=0\nFDNAME=mme-1", 1))
+        os.close(files[0])
+        keeping.forget("mme-1")
+        self.assertEqual(manager.recv(1000), b"FDSTOREREMOVE=1\nFDNAME=mme-1")
+        kept.Kept({}).keep("mme-1", 0)  # without a service manager nothing is kept
 
 
 class Given(tools.InFolder):
