@@ -1,9 +1,7 @@
 """Writes and compares what crates/README.md has of crates.txt.
 
-- Each crate of crates.txt has one row, under headings that tell its family. "Stands on" and "Used by" are those of crates.txt. A
-  crate stands on what its line lists, without what another of these stands on, libraries of the toolchain among it. Used by: who so
-  stands on it, and how many crates list it.
-- "Contract" says what the layer above may use: it isn't empty, and "-" only where nobody stands on the crate.
+- Each crate of crates.txt has one row, under headings that tell its family, which says what it does. "Stands on" is that of
+  crates.txt: what its line lists, without what another of these stands on, libraries of the toolchain among it.
 - The picture of the layers is at most 100 columns wide. It has each crate once, and none stands on one above it.
 - docs/ARCHITECTURE.md has neither rows of crates nor a picture of its own: each fact once.
 - No crate has more than 1,500 lines of source or 100 functions, tests left out.
@@ -15,7 +13,7 @@ import re
 import tables
 
 PAGE, MAP = "crates/README.md", "docs/ARCHITECTURE.md"
-CELLS = 5  # of a row: crate, what it does, what it stands on, its contract, who uses it
+CELLS = 3  # of a row: crate, what it does, what it stands on
 WIDTH = 100
 LINES, FUNCTIONS = 1500, 100
 WAYS = 1_000_000
@@ -66,13 +64,6 @@ def cells(names):
     return ", ".join("`%s`" % name for name in names)
 
 
-def used_by(crate, uses, nearest):
-    """Who stands on a crate, and how many list it where there are more."""
-    near = [other for other, names in nearest.items() if crate in names]
-    count = sum(crate in names for names in uses.values())
-    return cells(near) + (" (%d in all)" % count if count > len(near) else "")
-
-
 def rows_of(text):
     """The rows of a text that begin with a name: each with its number of line, name and cells."""
     for number, line in enumerate(text.split("\n")):
@@ -94,8 +85,7 @@ def written():
     lines = tail.split("\n")
     for number, crate, row in rows_of(tail):
         if crate in uses and len(row) == CELLS:
-            lines[number] = "| `%s` | %s | %s | %s | %s |" % (crate, row[1], cells(nearest[crate]) or "-", row[3],
-                                                              used_by(crate, uses, nearest) or "-")
+            lines[number] = "| `%s` | %s | %s |" % (crate, row[1], cells(nearest[crate]) or "-")
     return head + "\n".join(lines)
 
 
@@ -145,17 +135,16 @@ def size_faults(uses):
 
 
 def row_faults(text, uses):
-    """Crates without a row or with several, rows of no crate or of other cells, and those without a contract."""
+    """Crates without a row or with several, rows of no crate or of other cells, and those that don't say what the crate does."""
     rows = [(crate, row) for _, crate, row in rows_of(text[family_part(text):])]
     there = [crate for crate, _ in rows]
     yield from ("%s has %d rows" % (crate, there.count(crate)) for crate in uses if there.count(crate) != 1)
     yield from ("%s is no crate" % crate for crate in there if crate not in uses)
-    used = {one for names in uses.values() for one in names}
     for crate, row in rows:
         if len(row) != CELLS:
             yield "%s has a row of %d cells" % (crate, len(row))
-        elif not row[3] or row[3] == "-" and crate in used:
-            yield "%s has no contract" % crate
+        elif row[1] in ("", "-"):
+            yield "%s doesn't say what it does" % crate
 
 
 def twice_told(uses):

@@ -1,8 +1,9 @@
 """Writes docs/DEFINITIONS.md from the specs/ of all crates, and compares it.
 
-- Of each module with public definitions that the contract of a public function cites, or whose comment or section names a clause of
-  a standard, a row for each clause with their names. Where neither names one, that of the module's first lines stands in brackets.
-  What each says is its comment, which stands above it alone.
+- Of each module, a line for each clause of a standard that the comment or the section of a public definition names, with the names of
+  these. Where neither names one, but the contract of a public function cites the definition, the clause of the module's first lines
+  stands in brackets. What each says is its comment, which stands above it alone. Crates of laws are left out: they say what the
+  definitions of other crates amount to.
 - What stands above the heading "By crate" is written by people.
 """
 import re
@@ -10,8 +11,7 @@ import re
 import refusals_check
 import tables
 
-DOCUMENT, MARK = "docs/DEFINITIONS.md", "## By crate\n"
-HEAD = "| Module | Standard | Definitions |\n|---|---|---|\n"
+DOCUMENT, MARK, LAWS = "docs/DEFINITIONS.md", "## By crate\n", "laws_"
 STANDARD = r"(?:TS \d+\.\d+|X\.691|RFC \d+|FIPS 197)"
 DEFINITION = re.compile(r"(?:(?:abbrev|unfoldable) pub|pub (?:record|data)) (\w+)")
 CLAUSE = r"[A-Z]?\d*(?:\.\d+)*"
@@ -24,9 +24,14 @@ class Definition:
         self.module, self.name = module, name
         self.comment, self.section, self.opening = comment, section, opening
 
-    def standard(self):
-        own = clauses(self.comment) or clauses(self.section)
-        return own or ("(%s)" % clauses(self.opening) if clauses(self.opening) else "-")
+    def own(self):
+        return clauses(self.comment) or clauses(self.section)
+
+    def place(self):
+        """Its module and the clause, or nothing where no clause is named."""
+        if self.own():
+            return "`%s`, %s" % (self.module, self.own())
+        return "`%s` (%s)" % (self.module, clauses(self.opening)) if clauses(self.opening) else ""
 
 
 def in_one_form(cited):
@@ -92,13 +97,13 @@ def cited():
     return found
 
 
-def rows_of(crate, wanted):
-    """The rows of a crate: the names of each module and clause, in the order of their first ones."""
-    rows = {}
+def lines_of(crate, wanted):
+    """The lines of a crate: the names of each module and clause, in the order of their first ones."""
+    named = {}
     for one in definitions_of(crate):
-        if (crate, one.module, one.name) in wanted or clauses(one.comment) or clauses(one.section):
-            rows.setdefault((one.module, one.standard()), []).append(one.name)
-    return rows
+        if one.place() and (one.own() or (crate, one.module, one.name) in wanted):
+            named.setdefault(one.place(), []).append(one.name)
+    return ["- %s: %s" % (place, ", ".join("`%s`" % name for name in names)) for place, names in named.items()]
 
 
 def written():
@@ -106,10 +111,9 @@ def written():
     wanted, text = cited(), tables.text(DOCUMENT)
     parts = [text[:text.index(MARK)] + MARK]
     for crate in refusals_check.listed():
-        rows = ["| `%s` | %s | %s |" % (module, standard, ", ".join("`%s`" % name for name in names))
-                for (module, standard), names in rows_of(crate, wanted).items()]
-        if rows:
-            parts.append("\n### `%s`\n\n%s%s\n" % (crate, HEAD, "\n".join(rows)))
+        lines = [] if crate.startswith(LAWS) else lines_of(crate, wanted)
+        if lines:
+            parts.append("\n### `%s`\n\n%s\n" % (crate, "\n".join(lines)))
     return "".join(parts)
 
 
@@ -127,4 +131,4 @@ def checked(_words=()):
         faults = ["%s has its lines in another order" % DOCUMENT]
     for fault in faults:
         print("FAILED %s ('tests/docs/write definitions' writes it)" % fault)
-    return sum(line.startswith("| ") for line in owed) if not faults else 0, len(faults)
+    return sum(line.startswith("- `") for line in owed) if not faults else 0, len(faults)

@@ -8,8 +8,8 @@
   the next by what the code declares (items.py): that both words are somewhere isn't enough. So it is in all documents.
 - Any other piece of code stands in some file of the repository as it is, unless it is a command; `..` in it was left out.
 - A word of PROMISES.md that is the name of a lemma of specs/ names a contract too: a lemma alone is no promise.
-- Each row of PROOFS.md under "From promise to clause" has a function whose contract has its clauses, definitions that are public in
-  some crate's specs/, and edits that are there.
+- Each row of PROOFS.md under "From promise to clause" has a crate's function, or several, with the clauses of their contracts behind a
+  colon, definitions that are public in some crate's specs/, and edits that are there.
 """
 import functools
 import os
@@ -180,15 +180,19 @@ def contract_of(tree, crate, function):
 
 
 def row_faults(tree, row):
-    """What is wrong with a row: promise, crate, function, clauses, definitions, edits."""
-    _, crate, function, clauses, definitions, edits = row
-    contracts = list(contract_of(tree, crate, function))
-    if not contracts:
-        yield "%s has no function %s" % (crate, function)
-        return
-    for clause in [] if clauses == "the one" else clauses.split(", "):
+    """What is wrong with a row: promise, contract as 'CRATE FUNCTION, ..: CLAUSE, ..', definitions, edits."""
+    _, contract, definitions, edits = row
+    named, _, clauses = contract.partition(": ")
+    crate, _, functions = named.partition(" ")
+    contracts = []
+    for function in functions.split(", "):
+        found = list(contract_of(tree, crate, function))
+        contracts += found
+        if not found:
+            yield "%s has no function %s" % (crate, function)
+    for clause in filter(None, clauses.split(", ")):
         if not any(re.search(r"ensures %s \{" % re.escape(clause), contract) for contract in contracts):
-            yield "%s has no clause %s" % (function, clause)
+            yield "%s has no clause %s" % (functions, clause)
     yield from ("no definition %s" % name for name in definitions.split(", ") if name not in tree.definitions)
     yield from ("no edit %s" % edit for edit in edits.split(", ") if edit not in tree.edits | {"-"})
 
@@ -209,8 +213,8 @@ def checked(_words=()):
         for number, fault in found:
             passed += not fault
             faults += ["%s:%d: %s" % (path, number, fault)] if fault else []
-    for row in tables.read("docs/PROOFS.md").get(PROMISES, []) or [[""] * 6]:
-        wrong = list(row_faults(tree, row)) if len(row) == 6 else ["%d cells" % len(row)]
+    for row in tables.read("docs/PROOFS.md").get(PROMISES, []) or [[""] * 4]:
+        wrong = list(row_faults(tree, row)) if len(row) == 4 else ["%d cells" % len(row)]
         passed += not wrong
         faults += ["docs/PROOFS.md, %s: %s" % (row[0], fault) for fault in wrong]
     for fault in faults:
