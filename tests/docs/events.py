@@ -98,7 +98,7 @@ for variant, made in ATTACHES.items():
     event("first ATTACH REQUEST" + variant)(lambda scene, made=made: arrives(scene, made(scene.phone)))
 event("first ATTACH REQUEST (no vector left)", choices={"spare_vectors": 0})(
     lambda scene: arrives(scene, attach_nas(scene.phone)))
-event("first ATTACH REQUEST (same eNB UE S1AP ID)", phases=CONNECTED)(
+event("first ATTACH REQUEST (same eNB id)", phases=CONNECTED)(
     lambda scene: arrives(scene, attach_nas(scene.phone), b=scene.phone.b))
 
 
@@ -126,9 +126,9 @@ SERVICES = {
 for variant, made in SERVICES.items():
     event("first SERVICE REQUEST" + variant, phases=phases_with(variant))(
         lambda scene, made=made: arrives(scene, made(scene.phone), tmsi=scene.phone.tmsi))
-event("first SERVICE REQUEST (same eNB UE S1AP ID)", phases=CONNECTED)(
+event("first SERVICE REQUEST (same eNB id)", phases=CONNECTED)(
     lambda scene: arrives(scene, service_nas(scene.phone), b=scene.phone.b, tmsi=scene.phone.tmsi))
-event("first SERVICE REQUEST (wrong MAC, same eNB UE S1AP ID)", phases=CONNECTED)(
+event("first SERVICE REQUEST (wrong MAC, same eNB id)", phases=CONNECTED)(
     lambda scene: arrives(scene, turned(service_nas(scene.phone), 3), b=scene.phone.b, tmsi=scene.phone.tmsi))
 
 
@@ -149,7 +149,7 @@ def known(name, nas_of):
     }
     for variant, made in variants.items():
         event(name + variant, phases=phases_with(variant))(lambda scene, made=made: arrives(scene, made(scene.phone)))
-    event(name + " (same eNB UE S1AP ID)", phases=CONNECTED)(
+    event(name + " (same eNB id)", phases=CONNECTED)(
         lambda scene: arrives(scene, under(scene.phone, nas_of(scene.phone)), b=scene.phone.b))
 
 
@@ -214,7 +214,7 @@ def by_ids(name, message):
         event(name, phases=CONNECTED)(at)
     event(name + " (last id)", phases=UNCONNECTED)(at)
     event(name + " (another id)")(lambda scene: at(scene, m_more=1))
-    event(name + " (another eNB UE S1AP ID)", phases=CONNECTED)(lambda scene: at(scene, b_more=7))
+    event(name + " (another eNB id)", phases=CONNECTED)(lambda scene: at(scene, b_more=7))
     event(name + " (another station)", phases=CONNECTED)(lambda scene: at(scene, other_station=True))
 
 
@@ -392,10 +392,10 @@ def each_by_itself(m, b):
 # What a RESET of a part by the connection's station lists, by the connection's ids.
 LISTED = {
     "its id": lambda m, b: [(m, None)],
-    "its eNB UE S1AP ID": lambda m, b: [(None, b)],
+    "its eNB id": lambda m, b: [(None, b)],
     "its pair": lambda m, b: [(None, None), (m ^ 0x40, None), (m, b)],
     "another id": lambda m, b: [(m ^ 0x40, None)],
-    "another eNB UE S1AP ID": lambda m, b: [(None, b + 7)],
+    "another eNB id": lambda m, b: [(None, b + 7)],
     "another pair": lambda m, b: [(m, b + 7), (m ^ 0x40, b)],
     "no id": lambda m, b: [(None, None)],
 }

@@ -75,6 +75,11 @@ def second(row):
     return (row[1],)
 
 
+def number_of(row):
+    """The number of an element, which stands before its name."""
+    return row[0].split()[0]
+
+
 # --- Definitions as terms: names, numbers and brackets ---
 
 
@@ -428,36 +433,52 @@ def constant(place):
 
 def check_messages(report, document):
     def cells(row):
-        _, who, code, kind, criticality, elements, clause = row
-        return code, kind, criticality, elements, clause, who
+        _, who, procedure, elements, clause = row
+        return *procedure.split(), elements, clause, who
     report.compare("S1AP messages", by(document["S1AP messages"], first, cells), s1ap_messages())
 
 
 def check_elements(report, document):
-    rows = document["S1AP elements"]
-    report.compare("S1AP elements", by(rows, first, lambda row: (row[2], row[3])), s1ap_elements())
+    rows, code = document["S1AP elements"], s1ap_elements()
+    report.compare("S1AP elements", by(rows, number_of, second), {named: (form,) for named, (_, form) in code.items()})
     clauses = element_clauses()
-    for named, _, kind, _, clause, *_ in rows:
+    for row in rows:
+        named, clause = number_of(row), row[2]
+        kind, _ = code.get(named, ("", ""))
         if kind in clauses:  # a type that two elements share has the clause of the first
             report.same("S1AP elements, clauses", named, clause, clauses.pop(kind))
     text = text_of("s1ap_rows/src/engine.rt")
     passed = {re.search(r"%s: u16 = (\d+)" % name, text).group(1): () for name in ("GUMMEI_ID", "CSG_ID", "CSG_ID_LIST")}
-    report.compare("Elements passed over", by(document["Elements passed over"], first, lambda row: ()), passed)
+    found = re.search(r"\n## Elements passed over\n\n.*: (.*)\.\n", tables.text("docs/PROFILE.md"))[1]
+    report.compare("Elements passed over", {name.split()[0]: () for name in found.split(", ")}, passed)
 
 
 def check_causes(report, document):
-    report.compare("S1AP causes", by(document["S1AP causes"], first, second), s1ap_causes())
-    for heading, path, kind in (("EMM causes", "mme_signalling/src/cause.rt", "EmmCause"),
-                                ("ESM causes", "esm_machine/src/cause.rt", "EsmCause")):
-        report.compare(heading, by(document[heading], first, second), nas_causes(path, kind))
+    """Of each group, the number and the name of each cause."""
+    found = {group: {name: number for number, name in re.findall(r"(\d+) ([\w-]+)", causes)}
+             for group, causes in document["Causes"]}
+    for group, path, kind in (("EMM", "mme_signalling/src/cause.rt", "EmmCause"),
+                              ("ESM", "esm_machine/src/cause.rt", "EsmCause")):
+        code = {name: number for number, (name,) in nas_causes(path, kind).items()}
+        report.compare(group + " causes", found.pop(group, {}), code)
+    report.compare("S1AP causes", {"%s %s" % (group, name): (number,) for group, causes in found.items()
+                                   for name, number in causes.items()}, s1ap_causes())
 
 
 def check_faults(report, document):
     for heading, faults in (("S1AP faults", s1ap_faults()), ("NAS faults", nas_faults())):
-        report.compare(heading, by(document[heading], first, lambda row: (row[2],)), faults)
+        report.compare(heading, by(document[heading], first, second), faults)
     headers = re.findall(r"SecurityHeader::(\w+) => (\d+),", text_of("nas_messages/src/protection.rt"))
     headers = {code: (name,) for name, code in headers}
     report.compare("Security headers", by(document["Security headers"], first, second), headers)
+
+
+def name_in_code(row):
+    """The name that the code has for the message of a row."""
+    if row[:2] == ["DETACH REQUEST", "network"]:
+        return "NetworkDetach"
+    name = row[0].replace("DEFAULT EPS BEARER CONTEXT ", "").removeprefix("PDN ").replace("ESM INFORMATION", "INFORMATION")
+    return name.title().replace(" ", "")
 
 
 def check_nas(report, document):
@@ -465,12 +486,12 @@ def check_nas(report, document):
     for rows, names in ((emm, s1ap.EMM_NAMES), (esm, s1ap.ESM_NAMES)):
         for name, _, code, *_ in rows:
             report.same("NAS messages", code, name, names[int(code, 16)])
-    rows = by(emm + esm, lambda row: row[3], lambda row: (row[2], row[4], row[5]))
+    rows = by(emm + esm, name_in_code, lambda row: tuple(cell or "none" for cell in row[2:5]))
     report.same("EMM messages", "SERVICE REQUEST", rows.pop("ServiceRequest")[0], "c7")
     report.compare("NAS messages", rows, nas_messages())
-    network = sorted(row[3] for row in emm if row[1] == "network")
+    network = sorted(name_in_code(row) for row in emm if row[1] == "network")
     report.same("EMM messages", "sent by a network alone", network, sorted(nas_senders()))
-    clauses = {name: {row[6] for row in emm + esm if row[0] == name} for name in nas_clauses()}
+    clauses = {name: {row[5] for row in emm + esm if row[0] == name} for name in nas_clauses()}
     report.compare("NAS messages, clauses", clauses, nas_clauses())
     skipped = by(document["Optional elements"], first, second)
     skipped.pop("all others")
@@ -492,12 +513,20 @@ def check_numbers(report, document):
     report.compare("Limits", limits, {what: constant(place) - (what in BELOW) for what, place in LIMITS.items()})
     code = {what: str(constant(place)) for what, place in CONSTANTS.items()}
     code |= {what: "%02x" % constant(place) for what, place in HEX_CONSTANTS.items()}
-    report.compare("Constants", by(document["Constants"], first, lambda row: row[1]), code)
+    report.compare("Constants", by(document["Constants"], first, lambda row: row[1].split()[0]), code)
+
+
+def lists_of(text):
+    """The items of each list, `- WHAT: VALUE`, as the rows of a table, by the heading above it."""
+    parts = re.split(r"(?m)^## (.*)$", text)
+    return {heading: [list(item) for item in re.findall(r"(?m)^- (.*?): (.*)$", body)]
+            for heading, body in zip(parts[1::2], parts[2::2])}
 
 
 def checked(_words=()):
     """How many comparisons passed and failed; prints each that failed."""
-    report, document = Report(), tables.read("docs/PROFILE.md")
+    report, path = Report(), "docs/PROFILE.md"
+    document = lists_of(tables.text(path)) | tables.read(path)
     for check in (check_messages, check_elements, check_causes, check_faults, check_nas, check_identities, check_numbers):
         try:
             check(report, document)

@@ -1,9 +1,11 @@
-"""Writes the tables of docs/REFUSALS.md from the code, and compares them.
+"""Writes the lists of docs/REFUSALS.md from the code, and compares them.
 
 - Numbers: the error of each public call, its variants in their order, with the code's numbers where it has them; those rise.
 - Calls: each public function that answers a `Result`, and each that answers an `Option`, but for those among the answers that are
-  no refusals. "When" are its clauses that speak of the answer, "What stays" those that say what a refused call leaves.
-- What people wrote stays: which refusals and in which order, of each call, and whether want of memory comes last or anywhere, where
+  no refusals, in lists: `- CALLS: REFUSALS; memory WHEN; when CLAUSES; stays CLAUSES`. The clauses after "when" are those that
+  speak of the answer, those after "stays" say what a refused call leaves; what most calls would have there is left out (never,
+  the one, no object). Calls whose error is lack of memory by its type have a list of their own.
+- What people wrote stays: which refusals and in which order, of each call, and whether lack of memory comes last or anywhere, where
   the error doesn't decide it. Of a call that isn't there yet the script writes its error's variants in their order, and anywhere.
 - Each variant that people wrote is one of the error that the calls answer, or of what that holds.
 - A call under "What isn't said" is marked; each whose object may change and of which no clause says what stays is there, and a
@@ -15,10 +17,13 @@ import re
 import tables
 
 DOCUMENT = "docs/REFUSALS.md"
-NUMBERS, CALLS, ANSWERS, UNSAID = "Numbers", "Calls", "Answers that are no refusals", "What isn't said"
+NUMBERS, CALLS, ALONE, ANSWERS, UNSAID = (
+    "Numbers", "Calls", "Lack of memory alone", "Answers that are no refusals", "What isn't said")
 MARK = "†"  # of a call that stands under "What isn't said"
 
 MEMORY = ("never", "alone", "last", "anywhere")
+NEVER, THE_ONE, NO_OBJECT, EXCEPTED = "never", "the one", "no object", "excepted"
+BY_TYPE = "-", "alone", "by its type"  # refusals, memory and when of the calls under ALONE
 
 # The forms of clauses that say what a refused call leaves: of an error, of every answer, or of `None`.
 STAYING = (r"(?:OnErr|IfErr) result.*\.new", r"\w+\.new[.\w]* ≡ .*\.old(?!.*\bresult$)", r"\w+\.old[.\w]* ≤ \w+\.new[.\w]*$",
@@ -197,11 +202,11 @@ def stays_of(call, function):
         return ["no object"]
     is_coding = re.search(r"&mut Bit(?:Reader|Writer)\b", function.contract) or re.match(r"Bit(?:Reader|Writer)::", call)
     is_step = re.search(r"\bdraft: &mut Draft\b", function.contract)
-    return ["excepted"] if is_coding or is_step or UNUSED.fullmatch(call) else ["not said"]
+    return [EXCEPTED] if is_coding or is_step or UNUSED.fullmatch(call) else ["not said"]
 
 
 def memory_of(function, is_answer, said):
-    """How want of memory comes: by the error, or as people said."""
+    """How lack of memory comes: by the error, or as people said."""
     error = error_of(function.result)
     if error == "AllocError":
         return "anywhere" if is_answer else "alone"
@@ -228,21 +233,38 @@ def table_of(body):
     return [[cell.strip() for cell in line.strip("|").split("|")] for line in rows[2:]]
 
 
+ITEM = re.compile(r"- ((?:`[^`]+`(?:, )?)+)(?: %s)?(?:: (.*))?$" % MARK)
+SAID = re.compile(r"(.*?)(?:; memory (\w+))?(?:; when .*?)?(?:; stays .*|; excepted)?$")
+
+
+def items_of(body):
+    """The items of a section's lists: the crate, the calls, and what is said of them."""
+    crate = None
+    for line in body.split("\n"):
+        found = ITEM.match(line)
+        if found:
+            yield crate, named(found[1]), found[2] or ""
+        elif line.startswith("**`"):
+            crate = line.strip("*`")
+
+
 class Document:
     """What people wrote: of each call its refusals and how memory comes, which calls are marked, and what is no refusal."""
 
     def __init__(self):
         found = sections()
-        self.said = {(cells[0].strip("`"), call): (cells[2], cells[3]) for cells in table_of(found.get(CALLS, ""))
-                     for call in named(cells[1])}
+        self.said = {(crate, call): (text, memory or NEVER)
+                     for crate, calls, said in items_of(found.get(CALLS, "")) for text, memory in [SAID.match(said).groups()]
+                     for call in calls}
+        self.said.update(((crate, call), BY_TYPE[:2]) for crate, calls, _ in items_of(found.get(ALONE, "")) for call in calls)
         self.unsaid = table_of(found.get(UNSAID, ""))
         self.marked = {(cells[0].strip("`"), call) for cells in self.unsaid for call in named(cells[1])}
         self.others = collections.defaultdict(set)
-        for crate, calls in table_of(found.get(ANSWERS, "")):
-            self.others[crate.strip("`")] |= set(named(calls))
+        for crate, calls in re.findall(r"(?m)^- `(\w+)`: (.*)$", found.get(ANSWERS, "")):
+            self.others[crate] |= set(named(calls))
 
     def is_answer(self, crate, call, function):
-        """Whether a refusal of this call, want of memory apart, is an answer: `None`, or `false` where people said so."""
+        """Whether a refusal of this call, lack of memory apart, is an answer: `None`, or `false` where people said so."""
         if re.match(r"(?:Result<)?Option<", function.result):
             return call not in self.others[crate]
         return function.result.startswith("Result<bool") or function.result == "bool" and (crate, call) in self.said
@@ -252,11 +274,11 @@ class Document:
 
 def cell_of(names):
     """Names of clauses, or one of the phrases that stand for them."""
-    return ", ".join(name if " " in name or name == "excepted" else "`%s`" % name for name in names)
+    return ", ".join(name if " " in name or name == EXCEPTED else "`%s`" % name for name in names)
 
 
 def refusals_of(code, function, is_answer):
-    """The variants of an error in their order, want of memory left out; or the answer that is a refusal."""
+    """The variants of an error in their order, lack of memory left out; or the answer that is a refusal."""
     if is_answer:
         return "`None`" if "Option<" in function.result else "`false`"
     names = [name for name, _, _ in code.variants.get(error_of(function.result), []) if name != "NoMemory"]
@@ -279,44 +301,73 @@ def rows_of(code, document):
             yield Row(crate, calls, refusals, memory, when, stays, is_marked)
 
 
-def calls_table(code, document):
-    lines = ["| Crate | Call | Refusals | Memory | When | What stays |", "|---|---|---|---|---|---|"]
-    for row in rows_of(code, document):
+def is_alone(row):
+    return (row.refusals, row.memory, row.when) == BY_TYPE and not row.is_marked
+
+
+def listed_by_crate(rows):
+    """Rows with what is said of their calls, as lists."""
+    last, lines = None, []
+    for row, said in rows:
+        if row.crate != last:
+            lines += [""] * bool(lines) + ["**`%s`**" % row.crate, ""]
         calls = ", ".join("`%s`" % call for call in row.calls) + (" " + MARK if row.is_marked else "")
-        lines.append("| `%s` | %s | %s | %s | %s | %s |" % (row.crate, calls, row.refusals, row.memory, row.when, row.stays))
+        lines.append("- %s: %s" % (calls, "; ".join(said)) if said else "- " + calls)
+        last = row.crate
     return "\n".join(lines)
 
 
-def numbers_table(code, document):
+def stays_in(row):
+    if row.stays == EXCEPTED:
+        return [EXCEPTED]
+    return [] if row.stays == NO_OBJECT else ["stays " + row.stays]
+
+
+def said_in(row):
+    """What is said of the calls of a row but for what most have."""
+    memory = [] if row.memory == NEVER else ["memory " + row.memory]
+    when = [] if row.when == THE_ONE else ["when " + row.when]
+    return [row.refusals, *memory, *when, *stays_in(row)]
+
+
+def calls_list(code, document):
+    return listed_by_crate((row, said_in(row)) for row in rows_of(code, document) if not is_alone(row))
+
+
+def alone_list(code, document):
+    return listed_by_crate((row, stays_in(row)) for row in rows_of(code, document) if is_alone(row))
+
+
+def numbers_list(code, _document):
     errors = {error_of(function.result) for public in code.public.values() for function in public.values()}
-    lines = ["| Error | Crate | Variants | In the code |", "|---|---|---|---|"]
+    lines = []
     for error, crate in code.home.items():
         if error in errors:
             there = code.variants[error]
             held_in = {name: [kind for kind in re.findall(r"\w+", held) if kind in code.variants] for name, held, _ in there}
-            variants = ["%s `%s`%s" % (number or at, name, " with a `%s`" % held_in[name][0] if held_in[name] else "")
-                        for at, (name, _, number) in enumerate(there, 1)]
-            lines.append("| `%s` | `%s` | %s | %s |" % (error, crate, ", ".join(variants), "yes" if there[0][2] else "no"))
+            variants = ["%s`%s`%s" % (number and number + " ", name, " with a `%s`" % held_in[name][0] if held_in[name] else "")
+                        for name, _, number in there]
+            lines.append("- `%s` of `%s`: %s" % (error, crate, ", ".join(variants)))
     return "\n".join(lines)
 
 
 def written():
     """The document as it should be."""
     code, document, text = Code(), Document(), tables.text(DOCUMENT)
-    for heading, table in ((NUMBERS, numbers_table), (CALLS, calls_table)):
-        text = re.sub(r"(?s)(\n## %s\n.*?\n)(\|.*?)(?=\n\n|\n*$)" % heading,
-                      lambda found, rows=table(code, document): found.group(1) + rows, text, count=1)
+    for heading, begin, made in ((NUMBERS, "- `", numbers_list), (CALLS, r"\*\*`", calls_list), (ALONE, r"\*\*`", alone_list)):
+        text = re.sub(r"(?s)(\n## %s\n.*?\n)%s.*?(?=\n\n## |\n*\Z)" % (heading, begin),
+                      lambda found, lines=made(code, document): found[1] + lines, text, count=1)
     return text
 
 
 def write():
-    """Writes both tables anew. Prints the calls that are new, whose refusals people have to put into order, and those that are gone
-    with what people wrote of them."""
+    """Writes these lists anew. Prints the calls that are new, whose refusals people have to put into order, and those
+    that are gone with what people wrote of them."""
     before = Document().said
     (tables.TOP / DOCUMENT).write_text(written(), encoding="utf-8")
     after = Document().said
     for crate, call in sorted(after.keys() - before.keys()):
-        print("new: %s, %s: put the order of its refusals into its row" % (crate, call))
+        print("new: %s, %s: put the order of its refusals into its item" % (crate, call))
     for crate, call in sorted(before.keys() - after.keys()):
         print("gone: %s, %s: %s, %s" % (crate, call, *before[crate, call]))
 

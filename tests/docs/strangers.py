@@ -121,7 +121,7 @@ def switch(n, e, m, b):
 
 def by_ids(name, message):
     event(name)(lambda scene: says(scene, message))
-    event(name + " (another eNB UE S1AP ID)", PRESENT)(lambda scene: says(scene, message, b=B + 7))
+    event(name + " (another eNB id)", PRESENT)(lambda scene: says(scene, message, b=B + 7))
     event(name + " (another station)", PRESENT)(lambda scene: says(scene, message, scene.stations[1]))
 
 
@@ -252,7 +252,7 @@ class Trial:
                 must(found == ids or received and found[0] == ids[0], "%s has the ids %s", message.text, found)
 
     def judge_state(self, group):
-        """Who answers a message with the id and another eNB UE S1AP ID, and how."""
+        """Who answers a message with the id and another eNB id, and how."""
         answers = {"closed": ("x", "mme"), "waiting": ("x", "pair"), "held": ("s", None)}
         owner, why = answers[self.row.next]
         text = told(group).removeprefix("subscriber: ")

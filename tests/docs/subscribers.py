@@ -21,7 +21,9 @@ COMPLETED = {"Updating": ["RELEASE nas normal-release"], "Updating connected": [
 
 # The words for what comes next that say the timers too, and the phases that fall back to being registered.
 STAYS, FALLS, REGISTERED = "stays", "falls", ("Registered connected", "Updating", "Updating connected")
+AGAIN, ITS_TIMER = "again", "its timer"  # what a phase sends again, and stays; the timer of a phase
 OLD = "old: "
+SHORT = {"old": OLD + "RELEASE nas normal-release"}  # what stands for more
 
 Row = collections.namedtuple("Row", "phase event sent next timer")
 # A machine in a phase: its heading, its events, for each of which there must be a row, the headings of the tables with further rows,
@@ -33,32 +35,49 @@ Machine = collections.namedtuple("Machine", "heading phase events shared timers"
 
 
 def events_in(cell, groups):
-    """The events of a cell: NAME or NAME (VARIANT; VARIANT), parted by commas; a group's name is each of its events."""
-    for part in re.findall(r"[^,(]+(?:\([^)]*\))?", cell):
-        name, _, variants = part.strip().partition(" (")
+    """The events of a cell: NAME or NAME (VARIANT; VARIANT), parted by commas, where `WORD: ` at the front is the first word of
+    each NAME; a group's name is each of its events."""
+    front = re.match(r"(\w+): |", cell)
+    for part in re.findall(r"[^,(]+(?:\([^)]*\))?", cell[front.end():]):
+        name, _, variants = ((front[1] + " " if front[1] else "") + part.strip()).partition(" (")
         for member in events_in(groups[name], {}) if name in groups else [name]:
             for variant in variants.rstrip(")").split("; "):
                 yield member + (" (%s)" % variant if variant else "")
 
 
-def next_of(machine, following, timer):
-    """The phase after an event and what runs then."""
+def timers_of(document):
+    """The timers of each phase, and those of a stranger."""
+    found = {phase: [] if timers == NOTHING else timers.split(", ") for phase, _, timers, _ in document["Phases"]}
+    return {**found, "waiting": ["T3470"]}
+
+
+def next_of(machine, following, timers):
+    """The phase after an event and what runs then: of the timers of each phase those of the next one, anew where it isn't said that
+    one goes on."""
     if following == STAYS:
         return machine.phase, ", ".join(name + " goes on" for name in machine.timers) or NOTHING
     if following == FALLS:
-        return ("Registered idle", "reachable") if machine.phase in REGISTERED else ("Deregistered", NOTHING)
-    return following, timer
+        following = "Registered idle" if machine.phase in REGISTERED else "Deregistered"
+    elif following == AGAIN:
+        following = machine.phase
+    phase, *going = following.split(", ")
+    running = [name + " goes on" * (name + " goes on" in going) for name in timers.get(phase, [])]
+    return phase, ", ".join(running) or NOTHING
 
 
 def rows_under(document, heading, machine):
     """The rows under a heading as they are for a machine, one for each event."""
-    groups = dict(document["Groups"])
-    for heard, sent, following, *timer in document.get(heading, []):
-        messages = [] if sent == NOTHING else sent.split("; ")
+    groups, timers = dict(document["Groups"]), timers_of(document)
+    again = {phase: text for phase, *_, text in document["Phases"]}
+    for heard, sent, following in document.get(heading, []):
+        if ITS_TIMER in heard:
+            heard = heard.replace(ITS_TIMER, machine.timers[0])
+        messages = [] if sent == NOTHING else [again[machine.phase]] if sent == AGAIN else sent.split("; ")
+        messages = [SHORT.get(text, text) for text in messages]
         if machine.phase in UNCONNECTED:
             messages = [text for text in messages if not text.startswith(OLD)]
         for event in events_in(heard, groups):
-            yield Row(machine.phase, event, messages, *next_of(machine, following, "".join(timer)))
+            yield Row(machine.phase, event, messages, *next_of(machine, following, timers))
 
 
 def rows_of(document, machine):
@@ -81,11 +100,9 @@ class Facts:
     """What the documents say of phases and timers."""
 
     def __init__(self, document, profile):
-        self.words, self.timers, self.again = {}, {}, {}
-        for phase, words, timers, again in document["Phases"]:
-            self.words[phase] = words
-            self.timers[phase] = [] if timers == NOTHING else timers.split(", ")
-            self.again[phase] = again
+        self.words, self.timers, self.again = {}, timers_of(document), {}
+        for phase, words, _, again in document["Phases"]:
+            self.words[phase], self.again[phase] = words, again
         self.lengths = {name: (int(ticks), int(repeats)) for name, ticks, repeats, *_ in profile["Timers"]}
         self.shared = {heading: phases_in(phases) for heading, phases in document["Rows of several phases"]}
 

@@ -12,7 +12,7 @@ import tables
 from answers import PROGRAM
 from scenes import PHASES
 
-OTHER_TABLES = {"What is heard", "What is sent", "What comes next", "Phases", "Groups", "Rows of several phases"}
+OTHER_TABLES = {"Phases", "Groups", "Rows of several phases"}
 OF_STRANGERS, OF_STATIONS = ["Every stranger"], ["Connected station"]
 
 
@@ -58,16 +58,12 @@ def unused(document, facts):
 
 
 def about_phases(document, facts):
-    """What is wrong with the phases' names, their words and the headings."""
+    """What is wrong with the phases' names and the headings."""
     named = {phase.split()[0] for phase in facts.words}
     for phase in named ^ phases_in_code():
         yield "Phases: %s isn't there, or not in the code" % phase
     for phase in set().union(*facts.shared.values()) - set(PHASES):
         yield "Rows of several phases: there is no phase %s" % phase
-    text = tables.text("docs/TABLE.md")
-    for phase, words in facts.words.items():
-        if "\n## %s\n\nPrinted `%s`." % (phase, words) not in text:
-            yield "%s: the words under the heading are others" % phase
     known = OTHER_TABLES.union(*({machine.heading, *machine.shared} for machine, _ in machines(facts)))
     for heading in known ^ set(document):
         yield "%s: a table that is missing, or is no machine's" % heading
