@@ -9,10 +9,12 @@ ATTACH COMPLETE. With --release the station then asks for the release and comple
 it isn't given; at the end each is shown. FILE gets the answers that the MME owes, by the standards' formats (phones.py, lte.py).
 """
 import argparse
+import pathlib
 import sys
 
-import lte
-import phones
+if __name__ == "__main__":
+    sys.path[0] = str(pathlib.Path(__file__).resolve().parent.parent)
+from reference import lte, phones
 
 MOST, MOST_TIMES = lte.SLOTS, 64
 

@@ -35,8 +35,9 @@ import tempfile
 import time
 
 sys.dont_write_bytecode = True
-import lte
-import phones
+if __name__ == "__main__":
+    sys.path[0] = str(pathlib.Path(__file__).resolve().parent.parent)
+from reference import lte, phones
 
 TOP = pathlib.Path(__file__).resolve().parent.parent
 NETWORK = phones.Network()

@@ -17,14 +17,14 @@ import sys
 import time
 
 sys.dont_write_bytecode = True
-HERE = pathlib.Path(__file__).resolve().parent
-sys.path[:0] = [str(HERE.parent / "tools"), str(HERE.parent / "tests" / "tools")]
-import gateway_world
-from tunnels import links
-from tunnels.devices import Devices
-from tunnels.gateway import Gateway
-from tunnels.kept import Kept
-from tunnels.phones import Phones, Tunnel
+if __name__ == "__main__":
+    sys.path[0] = str(pathlib.Path(__file__).resolve().parent.parent)
+from tests.tools import gateway_world
+from tools.tunnels import links
+from tools.tunnels.devices import Devices
+from tools.tunnels.gateway import Gateway
+from tools.tunnels.kept import Kept
+from tools.tunnels.phones import Phones, Tunnel
 
 ADDRESS, NETWORK, FIRST = "10.0.0.100", "10.45.0.0/16", 0x0A2D0001
 ALONE = 1000  # phones whose tunnel is changed by itself

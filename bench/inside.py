@@ -16,8 +16,9 @@ import time
 
 sys.dont_write_bytecode = True
 HERE = pathlib.Path(__file__).resolve().parent
-sys.path.insert(0, str(HERE.parent / "tests" / "tools"))
-import kernel
+if __name__ == "__main__":
+    sys.path[0] = str(HERE.parent)
+from tests.tools import kernel
 
 LONGEST = 24 * 3600  # seconds of a run
 VARIABLE = "SOIZKADUR_LIBRARY"  # by which the library is found that isn't where `./mme --library` leaves it

@@ -37,12 +37,10 @@ import tempfile
 import time
 
 sys.dont_write_bytecode = True
-import ends
-import lives
-import phones
-import replays
-import watch
-import wire
+if __name__ == "__main__":
+    sys.path[0] = str(pathlib.Path(__file__).resolve().parent.parent)
+from bench import ends, lives, replays, watch, wire
+from reference import phones
 
 STATIONS = 4
 PAGED = 0.1  # the share of phones asleep that data come for, before they do anything by themselves

@@ -25,12 +25,13 @@ import tempfile
 import time
 
 sys.dont_write_bytecode = True
-
 HERE = pathlib.Path(__file__).resolve().parent
-sys.path.append(str(HERE.parent / "python"))
-import measure
-import scripts
+if __name__ == "__main__":
+    sys.path[0] = str(HERE.parent)
+    sys.path.append(str(HERE.parent / "python"))
 import soizkadur
+from bench import measure
+from reference import scripts
 
 ACTS = ("attach %s 0 %d", "idle %s", "service %s 0 %d", "idle %s", "tau %s 0 %d", "detach %s")
 LINE = re.compile(r"(\d+) events, (\d+) messages, (\d+) octets in (\d+) ns\n")

@@ -4,19 +4,13 @@ somebody else can send it again.
 """
 import collections
 import itertools
-import pathlib
 import random
 import select
-import sys
 import time
 
-import lte
-import phones
-import wire
-
-sys.path.insert(0, str(pathlib.Path(__file__).resolve().parent.parent / "tools"))
-import s1ap
-del sys.path[0]
+from bench import wire
+from reference import lte, phones
+from tools import s1ap
 
 OUT, UNSURE, REGISTERED = "out", "unsure", "registered"  # what a phone knows of itself
 CHALLENGE, COMMAND, ACCEPT, SERVICE, UPDATE, SWITCH, DETACH, RELEASE = (

@@ -14,15 +14,16 @@ import argparse
 import functools
 import hashlib
 import os
+import pathlib
 import re
 import subprocess
 import sys
 import tempfile
 
-import attaches
-import lte
-import phones
-import scripts
+if __name__ == "__main__":
+    sys.path[0] = str(pathlib.Path(__file__).resolve().parent.parent)
+from bench import attaches
+from reference import lte, phones, scripts
 
 FEW, MANY, MOST = COUNTS = (20, 2048, attaches.MOST)
 COLUMNS = ["{:,}".format(count) for count in COUNTS]  # of the table

@@ -16,14 +16,12 @@ import subprocess
 import sys
 
 sys.dont_write_bytecode = True
-
-import repository
+if __name__ == "__main__":
+    sys.path[0] = str(pathlib.Path(__file__).resolve().parent.parent)
+from bench import repository
+from tools.program import toolchain
 
 HERE = pathlib.Path(__file__).resolve().parent
-sys.path.insert(0, str(HERE.parent / "tools" / "program"))
-import toolchain
-
-del sys.path[0]
 END = ".rt.txt"
 MAIN = HERE / ("main" + END)
 NAME = "benchmarks"

@@ -23,10 +23,10 @@ import sys
 import tempfile
 
 sys.dont_write_bytecode = True
-
-import attaches
-import measure
-import phones
+if __name__ == "__main__":
+    sys.path[0] = str(pathlib.Path(__file__).resolve().parent.parent)
+from bench import attaches, measure
+from reference import phones
 
 HERE = pathlib.Path(__file__).resolve().parent
 VECTORS = 64  # that are given to one subscriber, whose mean counts

@@ -7,9 +7,9 @@ under another eNB UE S1AP ID, with the answer that belongs to its challenge wher
 SERVICE REQUEST has 16 bits of a MAC and five of its COUNT (TS 24.301 clause 8.2.25). So once in 65,536 times an old one has the
 right MAC of the COUNT that the MME takes it to have, and nobody can tell it from the phone's own. Such a one isn't sent again.
 """
-import lives
-import lte
-import s1ap
+from bench import lives
+from reference import lte
+from tools import s1ap
 
 SERVICE_REQUEST = "SERVICE REQUEST"
 FIRST_MESSAGES = (SERVICE_REQUEST, "TRACKING AREA UPDATE REQUEST", "DETACH REQUEST")

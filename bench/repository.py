@@ -4,17 +4,12 @@ import pathlib
 import re
 import shutil
 import subprocess
-import sys
 import tempfile
 
-TOP = pathlib.Path(__file__).resolve().parent.parent
-PLACES = sys.path[:]
-sys.path.insert(0, str(TOP / "tools" / "program"))
-import children
-import tried
-from words import Failed
+from tools.program import children, tried
+from tools.program.words import Failed
 
-sys.path[:] = PLACES
+TOP = pathlib.Path(__file__).resolve().parent.parent
 KEPT = ".txt"  # what the name of a source has more outside crates/
 
 

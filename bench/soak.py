@@ -20,9 +20,10 @@ import sys
 import time
 
 sys.dont_write_bytecode = True
-import front as through
-import lte
-import phones
+if __name__ == "__main__":
+    sys.path[0] = str(pathlib.Path(__file__).resolve().parent.parent)
+from bench import front as through
+from reference import lte, phones
 
 STATIONS, FLOODING, FLOOD_RATE = 4, 3, 300
 FIRST_VECTORS, MORE_VECTORS, MOST_VECTORS = 8, 4, 64

@@ -18,7 +18,9 @@ import tempfile
 import time
 
 sys.dont_write_bytecode = True
-import attaches
+if __name__ == "__main__":
+    sys.path[0] = str(pathlib.Path(__file__).resolve().parent.parent)
+from bench import attaches
 
 TOOLS = pathlib.Path(__file__).resolve().parent.parent / "tools"
 MILLION = 10**6

@@ -4,7 +4,7 @@ What isn't so is a violation, and is told with its octets.
 """
 import collections
 
-import lte
+from reference import lte
 
 ROUND = 256  # COUNTs with the same sequence number in the message (TS 24.301 clause 4.4.3.1)
 LONGEST_CHAIN = 64  # next hops of one KeNB that are looked at

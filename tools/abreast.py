@@ -5,7 +5,7 @@ import os
 import signal
 import tempfile
 
-import runs
+from tools import runs
 
 LEAST = 20000  # things of a part: fewer aren't worth a process
 PIECE = 1 << 20  # letters of a part that are read at once

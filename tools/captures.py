@@ -11,9 +11,7 @@ import re
 import struct
 import zlib
 
-import runs
-import s1ap
-import versions
+from tools import runs, s1ap, versions
 
 # --- The formats, for both ways ---
 

@@ -1,5 +1,5 @@
 """The causes of EMM and ESM in words (TS 24.301 clauses 9.9.3.9 and 9.9.4.4); those of S1AP are in s1ap.py."""
-import s1ap
+from tools import s1ap
 
 # The causes of protocol errors, which EMM and ESM share (TS 24.301 annexes A and B).
 PROTOCOL_ERRORS = {

@@ -8,7 +8,7 @@ import re
 import subprocess
 import time
 
-import runs
+from tools import runs
 
 TIME = re.compile(rb"# time (\d{4}-\d\d-\d\d \d\d:\d\d:\d\d)\.(\d{3})$")
 PAUSE = 0.1  # seconds between two looks at a trace that has no more lines for now

@@ -15,11 +15,9 @@ import subprocess
 import sys
 import tempfile
 
-import progress
-import s1ap
-import versions
-from causes import nas_cause
-from eps import holes, messages, quick
+from tools import progress, s1ap, versions
+from tools.causes import nas_cause
+from tools.eps import holes, messages, quick
 
 LONGEST_LINE = 40000  # octets
 STATIONS = 128

@@ -1,14 +1,9 @@
 """What the built program answers to a trace: the messages between the lines of states, as docs/TABLE.md names them."""
 import collections
 import subprocess
-import sys
 
-import tables
-
-sys.path.insert(0, str(tables.TOP / "tools"))
-import s1ap
-
-del sys.path[0]
+from tests.docs import tables
+from tools import s1ap
 
 PROGRAM = tables.TOP / "crates" / "mme" / "out" / "mme"
 ATTACH_REJECT = 0x44

@@ -5,7 +5,7 @@ import re
 import subprocess
 import tempfile
 
-import tables
+from tests.docs import tables
 
 CHARTS = tables.TOP / "docs" / "charts"
 

@@ -10,7 +10,7 @@
 """
 import re
 
-import tables
+from tests.docs import tables
 
 PAGE, MAP = "crates/README.md", "docs/ARCHITECTURE.md"
 CELLS = 3  # of a row: crate, what it does, what it stands on

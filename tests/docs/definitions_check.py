@@ -8,8 +8,7 @@
 """
 import re
 
-import refusals_check
-import tables
+from tests.docs import refusals_check, tables
 
 DOCUMENT, MARK, LAWS = "docs/DEFINITIONS.md", "## By crate\n", "laws_"
 STANDARD = r"(?:TS \d+\.\d+|X\.691|RFC \d+|FIPS 197)"

@@ -5,7 +5,7 @@ UPLINK NAS TRANSPORT on the phone's association.
 """
 import collections
 
-from scenes import CONNECTED, LATER, PHASES, PTI, SWITCHED_OFF, UNCONNECTED, detach_request, lte, stranger_id
+from tests.docs.scenes import CONNECTED, LATER, PHASES, PTI, SWITCHED_OFF, UNCONNECTED, detach_request, lte, stranger_id
 
 ELSEWHERE, STRANGERS_B = 2, 5  # eNB UE S1AP IDs of a first message, and of a stranger
 ALL = tuple(PHASES)

@@ -17,8 +17,8 @@ import pathlib
 import re
 import subprocess
 
-import tables
-from items import Items
+from tests.docs import tables
+from tests.docs.items import Items
 
 DOCUMENTS = ("docs/TOUR.md", "docs/PROOFS.md", "docs/PROMISES.md", "docs/REFUSALS.md", "docs/DEFINITIONS.md", "CONTRIBUTING.md",
              "CHANGELOG.md", "crates/README.md", "docs/ARCHITECTURE.md", "docs/DECISIONS.md", "docs/SECURITY.md")

@@ -5,14 +5,9 @@ cell that isn't as the code has it, fail with a line that says which. The code i
 (`specs/*.antt`) and those of the program (`src/*.rt`) are both read where there are both, and have to agree.
 """
 import re
-import sys
 
-import tables
-
-sys.path.insert(0, str(tables.TOP / "tools"))
-import s1ap
-
-del sys.path[0]
+from tests.docs import tables
+from tools import s1ap
 
 KINDS = ("initiating", "successful", "unsuccessful")
 MACHINES = ("mme_types", "mme_signalling", "emm_state", "emm_uplink", "emm_network", "emm_machine", "stranger_machine", "mme_routing")

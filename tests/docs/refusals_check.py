@@ -14,7 +14,7 @@
 import collections
 import re
 
-import tables
+from tests.docs import tables
 
 DOCUMENT = "docs/REFUSALS.md"
 NUMBERS, CALLS, ALONE, ANSWERS, UNSAID = (

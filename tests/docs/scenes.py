@@ -1,16 +1,9 @@
 """Phones in each phase of a subscriber's machine, as the lines of a trace for `mme play`.
 
-The octets are those of bench/phones.py and bench/lte.py, which know the standards and not the MME; so are the answers that the
-MME owes on the way into the phase.
+The octets are those of reference/phones.py and reference/lte.py, which know the standards and not the MME; so are the answers that
+the MME owes on the way into the phase.
 """
-import pathlib
-import sys
-
-sys.path.insert(0, str(pathlib.Path(__file__).resolve().parent.parent.parent / "bench"))
-import lte
-import phones
-
-del sys.path[0]
+from reference import lte, phones
 
 FIRST_STRANGER = 1 << 31
 # The GUTI of another MME (TS 24.301 clause 9.9.3.12).

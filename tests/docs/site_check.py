@@ -5,13 +5,10 @@ import os
 import pathlib
 import shutil
 import subprocess
-import sys
 import tempfile
 
-import tables
-
-sys.path.insert(0, str(tables.TOP / "tests"))
-from installed import left_out
+from tests.docs import tables
+from tests.installed import left_out
 
 DOCUMENTS = ("*.md", "docs/*.md", "crates/*.md", "bench/*.md", "deploy/*.md")
 LOADED = {"img": "src", "script": "src", "link": "href", "iframe": "src", "source": "src", "object": "data"}

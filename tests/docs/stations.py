@@ -2,10 +2,10 @@
 
 A station's state isn't printed: it is seen by what a reset is answered with.
 """
-from answers import Failure, judge_steps, must, play, texts
-from events import MESSAGES, RESET_ALL, both, initial
-from scenes import lte, phones
-from strangers import SERVICE, switch
+from tests.docs.answers import Failure, judge_steps, must, play, texts
+from tests.docs.events import MESSAGES, RESET_ALL, both, initial
+from tests.docs.scenes import lte, phones
+from tests.docs.strangers import SERVICE, switch
 
 NOTIFY = 2  # criticality
 OTHER_NETWORK = phones.Network("208", "93")

@@ -2,10 +2,11 @@
 
 The stranger's state isn't printed: it is seen by who answers a message with its id under another eNB UE S1AP ID, and how.
 """
-from answers import Failure, judge_steps, must, play
-from events import LATER_CAUSE, LISTED, MESSAGES, RESET_ALL, attach_nas, both, each_by_itself, initial, resets, with_cause
-from scenes import FOREIGN_GUTI, PTI, Scene, lte, phones, stranger_id
-from subscribers import AGE, LONG
+from tests.docs.answers import Failure, judge_steps, must, play
+from tests.docs.events import (LATER_CAUSE, LISTED, MESSAGES, RESET_ALL, attach_nas, both, each_by_itself, initial, resets,
+                               with_cause)
+from tests.docs.scenes import FOREIGN_GUTI, PTI, Scene, lte, phones, stranger_id
+from tests.docs.subscribers import AGE, LONG
 
 B = 1  # the stranger's eNB UE S1AP ID
 NOBODY = "001010000000009"

@@ -7,9 +7,9 @@ timer ends at its tick and not before.
 import collections
 import re
 
-from answers import Failure, judge_steps, must, play, s1ap, texts
-from events import EVENTS, MESSAGES, Arrival, Event, sent_by
-from scenes import PHASES, UNCONNECTED, lte, scene_of
+from tests.docs.answers import Failure, judge_steps, must, play, s1ap, texts
+from tests.docs.events import EVENTS, MESSAGES, Arrival, Event, sent_by
+from tests.docs.scenes import PHASES, UNCONNECTED, lte, scene_of
 
 AGE = 2  # ticks in a phase before the event
 LONG = 3600  # ticks after which nothing comes

@@ -9,8 +9,7 @@ but for those of `SHARED`.
 import functools
 import re
 
-import signatures
-import tables
+from tests.docs import signatures, tables
 
 CRATES = tables.TOP / "crates"
 LIST = "tests/docs/surface.txt"

@@ -5,12 +5,9 @@ A row that is missing, or stands twice, fails too: each phase has a row for each
 import collections
 import re
 
-import stations
-import strangers
-import subscribers
-import tables
-from answers import PROGRAM
-from scenes import PHASES
+from tests.docs import stations, strangers, subscribers, tables
+from tests.docs.answers import PROGRAM
+from tests.docs.scenes import PHASES
 
 OTHER_TABLES = {"Phases", "Groups", "Rows of several phases"}
 OF_STRANGERS, OF_STATIONS = ["Every stranger"], ["Connected station"]

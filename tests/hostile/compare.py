@@ -1,8 +1,8 @@
 """One MME with all phones against one MME for each owner alone: what each is sent, and its states, must be the same."""
 import collections
 
-import program
-from projection import FIRST_STRANGER, Projection
+from tests.hostile import program
+from tests.hostile.projection import FIRST_STRANGER, Projection
 
 Difference = collections.namedtuple("Difference", "owner place wanted got")
 

@@ -3,21 +3,12 @@ message at its place in the row, and both by the calculator.
 """
 import os
 import subprocess
-import sys
 from concurrent.futures import ThreadPoolExecutor
 
-import compare
-import laboratory
-import program
-import standards
-import worked
-from lies import turned
-from standards import lte, phones
-
-sys.path.insert(0, str(worked.PARTS))
-import calculator
-
-del sys.path[0]
+from tests.hostile import compare, laboratory, program, standards, worked
+from tests.hostile.lies import turned
+from tests.hostile.standards import lte, phones
+from tests.parts import calculator
 
 # ERROR INDICATION, protocol transfer-syntax-error (TS 36.413 clauses 8.7.2, 10.2)
 SYNTAX_ERROR = bytes.fromhex("000f40080000010002400130")

@@ -2,11 +2,9 @@
 import collections
 import random
 
-import compare
-import laboratory
-import program
-from lies import Liar
-from projection import Names
+from tests.hostile import compare, laboratory, program
+from tests.hostile.lies import Liar
+from tests.hostile.projection import Names
 
 SESSION = 1000  # events
 STRANGERS = 3  # strangers of a session that are compared, beside all subscribers and stations

@@ -4,8 +4,8 @@ A message is a `Said` until it is sent, so that a lie may be told in any part of
 """
 import dataclasses
 
-import standards
-from standards import IGNORE, INITIATING, REJECT, SUCCESSFUL, UNSUCCESSFUL, lte
+from tests.hostile import standards
+from tests.hostile.standards import IGNORE, INITIATING, REJECT, SUCCESSFUL, UNSUCCESSFUL, lte
 
 FOREIGN_GUTI = bytes.fromhex("f602f83900010212345678")
 ELSEWHERE_GUTI = bytes.fromhex("f600f1108001010ff00001")  # of this MME, and of a slot that isn't provisioned

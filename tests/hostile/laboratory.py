@@ -4,10 +4,9 @@
 """
 import collections
 
-import projection
-import standards
-from handsets import ELSEWHERE_GUTI, FOREIGN_GUTI, UNSPECIFIED, Handset, Said, Speech
-from standards import IGNORE, INITIATING, REJECT, lte, phones
+from tests.hostile import projection, standards
+from tests.hostile.handsets import ELSEWHERE_GUTI, FOREIGN_GUTI, UNSPECIFIED, Handset, Said, Speech
+from tests.hostile.standards import IGNORE, INITIATING, REJECT, lte, phones
 
 SUBSCRIBERS, PLENTY, FEW = 4, 64, 12  # subscribers; vectors of the first ones and of the last
 UNKNOWN_IMSI = "001010000000777"

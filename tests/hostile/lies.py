@@ -1,11 +1,11 @@
 """What hostile stations and phones make of messages, and what they send beside them."""
 import dataclasses
 
-import standards
-from handsets import FOREIGN_GUTI, UNSPECIFIED, Said
-from laboratory import LATER_CAUSE, NETWORK, RADIO_IDS, STATIONS, SUBSCRIBERS, Laboratory
-from projection import FIRST_STRANGER, stranger
-from standards import IGNORE, INITIATING, REJECT, lte
+from tests.hostile import standards
+from tests.hostile.handsets import FOREIGN_GUTI, UNSPECIFIED, Said
+from tests.hostile.laboratory import LATER_CAUSE, NETWORK, RADIO_IDS, STATIONS, SUBSCRIBERS, Laboratory
+from tests.hostile.projection import FIRST_STRANGER, stranger
+from tests.hostile.standards import IGNORE, INITIATING, REJECT, lte
 
 
 # The kinds of messages with ids.

@@ -5,7 +5,7 @@ nothing is lost but a little of the comparison.
 """
 import collections
 
-from standards import lte
+from tests.hostile.standards import lte
 
 INITIATING = 0
 PATH_SWITCH, INITIAL_UE, RESET, SETUP = 3, 12, 14, 17

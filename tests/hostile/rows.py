@@ -5,13 +5,15 @@
 
 With --check nothing is written: the rows that are there must be those that would be written.
 """
+import pathlib
 import sys
 
 sys.dont_write_bytecode = True
-
-from handsets import FOREIGN_GUTI
-from projection import stranger
-from standards import TOP, lte, phones
+if __name__ == "__main__":
+    sys.path[0] = str(pathlib.Path(__file__).resolve().parents[2])
+from tests.hostile.handsets import FOREIGN_GUTI
+from tests.hostile.projection import stranger
+from tests.hostile.standards import TOP, lte, phones
 
 FOLDER = TOP / "tests" / "rows"
 IDENTITY_REQUEST = b"\x07\x55\x01"

@@ -4,13 +4,10 @@ them, are played as one MME with all phones, which answers as `mme sim` was answ
 import collections
 import random
 
-import compare
-import laboratory
-import program
-import projection
-from laboratory import IMSIS, RADIO_IDS, STATIONS
-from lies import Liar
-from projection import Unreadable
+from tests.hostile import compare, laboratory, program, projection
+from tests.hostile.laboratory import IMSIS, RADIO_IDS, STATIONS
+from tests.hostile.lies import Liar
+from tests.hostile.projection import Unreadable
 
 SIM = "mme sim"  # whose a difference is where `mme play` answers otherwise
 ACTS = 250  # lines of a session's script

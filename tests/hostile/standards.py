@@ -1,19 +1,15 @@
 """The encoder of bench/, which knows the standards and not the MME, made fast: AES by the tables of tools/eps, MACs and elements
 kept.
 
-`message` puts a message of S1AP together from elements that bench/lte.py made; `check` compares both.
+`message` puts a message of S1AP together from elements that reference/lte.py made; `check` compares both.
 """
 import functools
 import pathlib
-import sys
+
+from reference import lte, phones
+from tools.eps import ciphers
 
 TOP = pathlib.Path(__file__).resolve().parent.parent.parent
-sys.path[:0] = [str(TOP / "bench"), str(TOP / "tools")]
-import lte
-import phones
-from eps import ciphers
-
-del sys.path[:2]
 
 # --- Ciphers ---
 

@@ -2,9 +2,9 @@
 import collections
 import pathlib
 
-import standards
-from projection import NAS_PDU, Names, Unreadable, read, sized
-from standards import phones
+from tests.hostile import standards
+from tests.hostile.projection import NAS_PDU, Names, Unreadable, read, sized
+from tests.hostile.standards import phones
 
 ROWS = standards.TOP / "tests" / "rows"
 PARTS = standards.TOP / "tests" / "parts"

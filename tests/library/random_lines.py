@@ -13,21 +13,13 @@ import collections
 import concurrent.futures
 import functools
 import itertools
-import pathlib
 import random
 import re
 import subprocess
-import sys
 
-HOSTILE = str(pathlib.Path(__file__).resolve().parent.parent / "hostile")
-sys.path.insert(1, HOSTILE)
-import compare
-import fuzz
-import program
-from laboratory import IMSIS
-from lies import Liar
-
-sys.path.remove(HOSTILE)
+from tests.hostile import compare, fuzz, program
+from tests.hostile.laboratory import IMSIS
+from tests.hostile.lies import Liar
 
 PROGRAM = program.PROGRAM
 SEED = "library"

@@ -12,13 +12,10 @@ import unittest
 
 sys.dont_write_bytecode = True
 
-TOOLS = pathlib.Path(__file__).resolve().parent.parent / "tools"
-sys.path.insert(0, str(TOOLS))
-import fronted
-import test_front
-import test_front_keys
-import test_front_kills
-import test_front_log
+TOP = pathlib.Path(__file__).resolve().parent.parent.parent
+if __name__ == "__main__":
+    sys.path[:1] = [str(TOP), str(TOP / "python")]
+from tests.tools import fronted, test_front, test_front_keys, test_front_kills, test_front_log
 
 SETUP_REQUEST = bytes.fromhex("0011001f000003003b00080000f11000000010004000070000004000f1100089400140")
 TIMES = re.compile(r"(?m)^(?:# time|# segment|# settled|tick) .*\n|(?<= port )\d+")
@@ -77,4 +74,5 @@ class Same(unittest.TestCase):
 
 
 if __name__ == "__main__":
-    sys.exit(runpy.run_path(str(TOOLS / "run"))["main"](["__main__"]))
+    judged = runpy.run_path(str(TOP / "tests" / "tools" / "run"))["judged"]
+    sys.exit(judged([unittest.defaultTestLoader.loadTestsFromName("__main__")]))

@@ -21,7 +21,8 @@ sys.dont_write_bytecode = True
 
 TOP = pathlib.Path(__file__).resolve().parent.parent.parent
 ROWS, PARTS = TOP / "tests" / "rows", TOP / "tests" / "parts"
-sys.path[:0] = [str(TOP / "python"), str(PARTS)]
+if __name__ == "__main__":
+    sys.path[:1] = [str(TOP), str(TOP / "python")]
 import soizkadur
 from soizkadur import Direction, EcmState, EmmMessage, EmmState, EsmState, Mme, Owner, Refusal, Refused, S1apKind, States
 from soizkadur.standards import FailingPhone, OutOfPlace, Sim, Vector, carried_nas, lte, phones
@@ -418,7 +419,7 @@ def keys(told):
 
 @test_of_each([(str(seed), seed) for seed in range(8)])
 def keys_as_hmac_has_them(seed):
-    """Python's hmac and the AES of bench/lte.py (FIPS 197, RFC 4493) come to the same."""
+    """Python's hmac and the AES of reference/lte.py (FIPS 197, RFC 4493) come to the same."""
     rng = random.Random(seed)
     kasme, previous, count = rng.randbytes(32), rng.randbytes(32), rng.randrange(2**32)
     must_be(soizkadur.kenb(kasme, count), lte.kenb(kasme, count))

@@ -18,13 +18,12 @@ import sys
 sys.dont_write_bytecode = True
 HERE = pathlib.Path(__file__).resolve().parent
 TOP = HERE.parent.parent
-PLACES = sys.path[:]
-sys.path[:0] = [str(TOP / "bench"), str(TOP / "tools" / "program")]
-import repository
-import tried
-from words import Failed
+if __name__ == "__main__":
+    sys.path[0] = str(TOP)
+from bench import repository
+from tools.program import tried
+from tools.program.words import Failed
 
-sys.path[:] = PLACES
 NAME = "calculator"
 FOLDER = HERE / NAME
 KEPT = FOLDER / "out"

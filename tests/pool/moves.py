@@ -1,8 +1,8 @@
 """A phone that goes from one MME of a pool to another: traces for both, with the answers by the standards' formats."""
-import parting
-import rows
-from projection import stranger
-from standards import lte, phones
+from tests.hostile import rows
+from tests.hostile.projection import stranger
+from tests.hostile.standards import lte, phones
+from tests.pool import parting
 
 TAU_REJECT_9, SERVICE_REJECT_9 = b"\x07\x4b\x09", b"\x07\x4e\x09"
 

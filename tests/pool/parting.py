@@ -6,7 +6,7 @@ lines of everybody, and those of its phones.
 import collections
 import random
 
-from standards import lte, phones
+from tests.hostile.standards import lte, phones
 
 PHONES, VECTORS = 8, 4
 CODES = ("11", "12", "13", "14")  # the MME codes of a pool's MMEs

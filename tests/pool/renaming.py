@@ -3,9 +3,9 @@
 What an MME puts into a phone's messages of its own: its MME code, in GUTI and S-TMSI; the phone's slot, in MME UE S1AP IDs and
 M-TMSIs. Everything else stays, octet for octet, the counters and counts among it.
 """
-import worked
-from projection import FIRST_STRANGER, number
-from standards import Cmac, lte, message, nas_pdu
+from tests.hostile import worked
+from tests.hostile.projection import FIRST_STRANGER, number
+from tests.hostile.standards import Cmac, lte, message, nas_pdu
 
 MME_ID, NAS_PDU, BEARERS, PAGING_IDENTITY, BOTH_IDS = 0, 26, 24, 43, 99
 GUTI_NEXT = b"\x50\x0b"  # in ATTACH ACCEPT and TRACKING AREA UPDATE ACCEPT (TS 24.301 clauses 8.2.1, 8.2.26)

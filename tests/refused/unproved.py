@@ -9,18 +9,12 @@ import queue
 import re
 import struct
 import subprocess
-import sys
 import threading
 
-from shimmed import HERE, TOP, Ran
-
-PLACES = sys.path[:]
-sys.path[:0] = [str(TOP / "bench"), str(TOP / "tools" / "program")]
-import repository
-import tried
-from words import Failed
-
-sys.path[:] = PLACES
+from bench import repository
+from tests.refused.shimmed import HERE, TOP, Ran
+from tools.program import tried
+from tools.program.words import Failed
 
 PATIENCE = 1800  # seconds for one run, which gives way to all else in the gate
 NAME = "refused_calls"

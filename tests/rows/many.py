@@ -10,11 +10,9 @@ import sys
 
 TOP = pathlib.Path(__file__).resolve().parent.parent.parent
 sys.dont_write_bytecode = True
-sys.path.insert(0, str(TOP / "bench"))
-import lte
-import phones
-
-del sys.path[0]
+if __name__ == "__main__":
+    sys.path[0] = str(TOP)
+from reference import lte, phones
 
 SERVICE_REJECT_9 = b"\x07\x4e\x09"
 NEVER_SEEN = "DEREGISTERED IDLE INACTIVE"

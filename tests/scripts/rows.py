@@ -5,7 +5,7 @@ with another status than 0, NAME.status with it and the text.
     rows.py [--check]
 
 With --check nothing is written: the files that are there must be those that would be written. Octets come from the standards'
-formats (bench/scripts.py), and those of worked rows, which stand here as they are, besides; none from the program's output.
+formats (reference/scripts.py), and those of worked rows, which stand here as they are, besides; none from the program's output.
 """
 import argparse
 import pathlib
@@ -14,12 +14,10 @@ import sys
 HERE = pathlib.Path(__file__).resolve().parent
 TOP = HERE.parent.parent
 sys.dont_write_bytecode = True
-sys.path.insert(0, str(TOP / "bench"))
-import lte
-import scripts
-from phones import KNOWN_VECTOR, Network, Station, Vector
-
-del sys.path[0]
+if __name__ == "__main__":
+    sys.path[0] = str(TOP)
+from reference import lte, scripts
+from reference.phones import KNOWN_VECTOR, Network, Station, Vector
 
 ONE, TWO, NOBODY = "001010000000001", "001010000000002", "001010000000009"
 MME = "mme 001 01 8001 01 internet 1000000000 1000000000"
@@ -41,7 +39,7 @@ ROWS = {}
 
 class Row:
     """A script; its line that is at fault, from 1, and the fault; its answers in the order of a worked row, if it is one; what it
-    prints, where bench/scripts.py doesn't know the answer."""
+    prints, where reference/scripts.py doesn't know the answer."""
 
     def __init__(self, lines, fault=None, answers=None, printed=None, text=None):
         self.text = "".join(line + "\n" for line in lines) if text is None else text

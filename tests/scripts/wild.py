@@ -3,7 +3,7 @@ some stations send what they shouldn't.
 """
 import random
 
-import rows
+from tests.scripts import rows
 
 PHONES = ["00101%010d" % (at + 1) for at in range(3)]
 VECTORS = 64

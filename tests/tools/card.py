@@ -1,14 +1,13 @@
 """A SIM for the tests of sources: Milenage written a second time after TS 35.206 clause 4.1, KASME after TS 33.401 annex A.2, and
-the array of 32 sequence numbers of TS 33.102 annex C.2. AES is OpenSSL's where that is there, otherwise the one of bench/lte.py."""
+the array of 32 sequence numbers of TS 33.102 annex C.2. AES is OpenSSL's where that is there, else that of reference/lte.py."""
 import ctypes
 import ctypes.util
 import functools
 import hashlib
 import hmac
 
-import tools
+from reference import lte as LTE
 
-LTE = tools.module("bench/lte.py")
 INDICES, WHOLE = 32, (1 << 128) - 1
 SYNCH_FAILURE, NOT_FOR_EPS = "auts", "separation bit"
 

@@ -9,11 +9,11 @@ import re
 import shutil
 import subprocess
 
-import tools
+from tests.tools import tools
+from tools.eps import identities, messages, render
+from tools.eps.per import CRITICALITIES, Enumerator
 
 CAPTURE = tools.module("tools/capture")
-from eps import identities, messages, render
-from eps.per import CRITICALITIES, Enumerator
 
 IS_MISSING = not shutil.which("tshark") and not os.environ.get("CI")  # under CI a test without tshark fails
 

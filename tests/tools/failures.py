@@ -1,17 +1,10 @@
 """Attaches that fail, each with the words that an engineer would want of it, written by hand.
 
-What the MME answers comes from the standards' formats (bench/phones.py, bench/lte.py), and never from the MME.
+What the MME answers comes from the standards' formats (reference/phones.py, reference/lte.py), and never from the MME.
 """
 import collections
-import sys
 
-import tools
-
-sys.path.insert(0, str(tools.TOP / "bench"))
-import lte
-import phones
-
-del sys.path[0]
+from reference import lte, phones
 
 Failure = collections.namedtuple("Failure", "name shows make words")
 FAILURES = []

@@ -15,11 +15,8 @@ import termios
 import threading
 import time
 
-import tools
-
-sys.path.insert(0, str(tools.TOP / "tools"))
-from fronting import command, saying
-del sys.path[0]
+from tests.tools import tools
+from tools.fronting import command, saying
 
 PROGRAM = tools.TOP / "crates" / "mme" / "out" / "mme"
 LIBRARY = object()  # in a program's place: the MME in the front's own process

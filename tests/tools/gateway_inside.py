@@ -21,13 +21,14 @@ import threading
 import time
 import unittest
 
-sys.path.insert(0, str(pathlib.Path(__file__).resolve().parent))
-from gateway_world import (ADDRESS, GATEWAY, INTERNET, MACHINE, NET, PATIENCE, QUIET, STATIONS, Phone, World, checksum,
-                           gtpu, inside, lay, load_modules, lte, packet, phones, sh, until)
-from sctp_inside import Named, name_of
-from test_lab import DOCUMENT as LAB
-from test_lab import blocks
-from tools import TOP
+if __name__ == "__main__":
+    sys.path[0] = str(pathlib.Path(__file__).resolve().parents[2])
+from tests.tools.gateway_world import (ADDRESS, GATEWAY, INTERNET, MACHINE, NET, PATIENCE, QUIET, STATIONS, Phone, World, checksum,
+                                       gtpu, inside, lay, load_modules, lte, packet, phones, sh, until)
+from tests.tools.sctp_inside import Named, name_of
+from tests.tools.test_lab import DOCUMENT as LAB
+from tests.tools.test_lab import blocks
+from tests.tools.tools import TOP
 
 STUCK = 600  # seconds in which no test ended
 MUTATIONS = 10000

@@ -14,14 +14,10 @@ import tempfile
 import threading
 import time
 
-import tools
-
-sys.path[:0] = [str(tools.TOP / "bench"), str(tools.TOP / "tools")]
-import lte
-import phones
-from fronting import sctp
-from tunnels import contexts, gtpu, links
-del sys.path[:2]
+from reference import lte, phones
+from tests.tools import tools
+from tools.fronting import sctp
+from tools.tunnels import contexts, gtpu, links
 
 PROGRAM = tools.TOP / "crates" / "mme" / "out" / "mme"
 FRONT, GATEWAY = tools.TOP / "tools" / "front", tools.TOP / "tools" / "gateway"

@@ -3,8 +3,8 @@ program itself in the proved one's place. So what they do there needs no proof; 
 import os
 import subprocess
 
-import tools
-from fronted import PROGRAM
+from tests.tools import tools
+from tests.tools.fronted import PROGRAM
 
 PACKAGE = tools.module("deploy/package")
 DOCUMENTS = "usr/share/doc/soizkadur/"

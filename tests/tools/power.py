@@ -8,17 +8,11 @@ import select
 import shutil
 import signal
 import subprocess
-import sys
 
-import tools
-from fronted import PROGRAM, Running
-
-sys.path.insert(0, str(tools.TOP / "bench"))
-LTE = tools.module("bench/lte.py")
-PHONES = tools.module("bench/phones.py")
-sys.path.insert(0, str(tools.TOP / "tools"))
-import s1ap
-del sys.path[:2]
+from reference import lte as LTE, phones as PHONES
+from tests.tools import tools
+from tests.tools.fronted import PROGRAM, Running
+from tools import s1ap
 
 SOURCE = tools.TOP / "tests" / "tools" / "power_cut.c"
 PAGE = 4096

@@ -14,11 +14,12 @@ import threading
 import time
 import unittest
 
-sys.path.insert(0, str(pathlib.Path(__file__).resolve().parent))
-from card import SYNCH_FAILURE, Card
-from hss import AIR, CER, CLR, DWR, IDR, P, R, REALM, T, USER_NAME, VENDOR, Hss, Subscriber, avp, capture
-from sourced import Running, vector
-from test_s6a import IMSI, K, MME, NOBODY, OPC, OTHER, RESULTS, Tshark, air, result, until
+if __name__ == "__main__":
+    sys.path[0] = str(pathlib.Path(__file__).resolve().parents[2])
+from tests.tools.card import SYNCH_FAILURE, Card
+from tests.tools.hss import AIR, CER, CLR, DWR, IDR, P, R, REALM, T, USER_NAME, VENDOR, Hss, Subscriber, avp, capture
+from tests.tools.sourced import Running, vector
+from tests.tools.test_s6a import IMSI, K, MME, NOBODY, OPC, OTHER, RESULTS, Tshark, air, result, until
 
 PORT = 3868
 RELAY_NAME = "dra." + REALM

@@ -22,18 +22,12 @@ import time
 import traceback
 import unittest
 
-sys.path.insert(0, str(pathlib.Path(__file__).resolve().parent))
-import tools
-from fronted import PATIENCE, PROGRAM, SLOW, Running
-
-sys.path.insert(0, str(tools.TOP / "tools"))
-sys.path.insert(0, str(tools.TOP / "bench"))
-LTE = tools.module("bench/lte.py")
-PHONES = tools.module("bench/phones.py")
-import kills
-import wire
-from fronting import sctp
-del sys.path[:2]
+if __name__ == "__main__":
+    sys.path[0] = str(pathlib.Path(__file__).resolve().parents[2])
+from bench import kills, wire
+from reference import lte as LTE, phones as PHONES
+from tests.tools.fronted import PATIENCE, PROGRAM, SLOW, Running
+from tools.fronting import sctp
 
 SERVER, SECOND = "10.0.0.1", "10.0.0.2"
 S1AP, OTHER_PROTOCOL = 18, 60

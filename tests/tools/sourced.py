@@ -6,7 +6,7 @@ import subprocess
 import sys
 import time
 
-import tools
+from tests.tools import tools
 
 PATIENCE = 60  # seconds for what takes a moment where the machine has nothing else to do
 

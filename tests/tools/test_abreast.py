@@ -1,16 +1,10 @@
 """tools/abreast.py: the parts of a text that are made by processes abreast."""
 import os
 import pathlib
-import sys
 import unittest
 import unittest.mock
 
-import tools
-
-sys.path.insert(0, str(tools.TOP / "tools"))
-import runs
-import abreast
-del sys.path[0]
+from tools import runs, abreast
 
 
 class Abreast(unittest.TestCase):

@@ -4,7 +4,7 @@ import subprocess
 import tempfile
 import unittest
 
-import tools
+from tests.tools import tools
 
 SCRIPT = tools.TOP / "tests" / "beside.py"
 

@@ -8,15 +8,13 @@ import itertools
 import shutil
 import struct
 import subprocess
-import sys
 import tempfile
 import unittest
 
-import tools
+from tests.tools import tools
+from tools import captures as CAPTURES, runs as RUNS
 
 CAPTURE = tools.module("tools/capture")
-RUNS = CAPTURE.runs
-CAPTURES = sys.modules["captures"]
 
 SETUP = bytes.fromhex("0011001f000003003b00080000f11000000010004000070000004000f1100089400140")
 SETUP_RESPONSE = bytes.fromhex("201100170000020069000b000000f11000008001000100574001ff")

@@ -2,9 +2,7 @@
 import subprocess
 import unittest
 
-import dissection
-import failures
-import tools
+from tests.tools import dissection, failures, tools
 
 CAPTURE = dissection.CAPTURE
 RUNS, STORY = CAPTURE.runs, CAPTURE.story

@@ -2,18 +2,14 @@
 between the right lanes; that a chart of a browser is XML with the same arrows."""
 import os
 import re
-import sys
 import unittest
 import unittest.mock
 import xml.etree.ElementTree
 
-import tools
-
-CHART = tools.module("tools/chart")
-RUNS = CHART.runs
-sys.path.insert(0, str(tools.TOP / "bench"))
-ATTACHES = tools.module("bench/attaches.py")
-del sys.path[0]
+from bench import attaches as ATTACHES
+from tests.tools import tools
+from tools import abreast as ABREAST, runs as RUNS
+from tools.charting import lanes as LANES, rows as ROWS, svg as PICTURE, text as TEXT
 
 SVG = "{http://www.w3.org/2000/svg}"
 
@@ -91,7 +87,7 @@ def run_of(name):
 
 def rows_of(name):
     trace, steps = run_of(name)
-    return CHART.rows_of(trace, steps), RUNS.end_of(steps)
+    return ROWS.rows_of(trace, steps), RUNS.end_of(steps)
 
 
 def messages(steps):
@@ -128,7 +124,7 @@ class Text(unittest.TestCase):
         """T3460 and T3450 have 6 seconds and 4 repeats (TS 24.301 table 10.2.2); what they wait for never comes. At 30 the
         second phone attaches."""
         trace, steps = RUNS.run_of(str(tools.TOP / "examples" / "deaf.trace"), None)
-        drawn = [(row.second, arrow.label) for row in CHART.rows_of(trace, steps) for arrow in row.arrows]
+        drawn = [(row.second, arrow.label) for row in ROWS.rows_of(trace, steps) for arrow in row.arrows]
         for label, seconds in (("AUTHENTICATION REQUEST", [0, 6, 12, 18, 24, 30]), ("UE CONTEXT RELEASE COMMAND", [30, 60]),
                                ("TRACKING AREA UPDATE ACCEPT", [30, 36, 42, 48, 54])):
             with self.subTest(label=label):
@@ -139,7 +135,7 @@ class Text(unittest.TestCase):
         for name in tools.playable():
             with self.subTest(row=name):
                 trace, steps = run_of(name)
-                text = CHART.text_of(CHART.rows_of(trace, steps), RUNS.end_of(steps), 132)
+                text = TEXT.text_of(ROWS.rows_of(trace, steps), RUNS.end_of(steps), 132)
                 self.assertLessEqual(max(map(len, text.split("\n"))), 132)
                 self.assertTrue(text.isascii())
                 sent = list(messages(steps))
@@ -156,7 +152,7 @@ class Text(unittest.TestCase):
                             ("setup_other_plmn", 1)):
             with self.subTest(row=name):
                 rows, end = rows_of(name)
-                marked = [line for line in CHART.text_of(rows, end, 120).split("\n") if line[7:8] == "!"]
+                marked = [line for line in TEXT.text_of(rows, end, 120).split("\n") if line[7:8] == "!"]
                 self.assertEqual(len(marked), count)
 
     def test_lists_of_associations(self):
@@ -174,13 +170,13 @@ class Text(unittest.TestCase):
                                  "(MME id 65537, no id, MME id 65537 with eNB id 2, MME id 0, 7 more)"])):
             with self.subTest(row=name):
                 rows, _ = rows_of(name)
-                said = [CHART.note_texts(row) for row in rows if any(arrow.label.startswith("RESET") for arrow in row.arrows)]
+                said = [LANES.note_texts(row) for row in rows if any(arrow.label.startswith("RESET") for arrow in row.arrows)]
                 self.assertEqual(said, wanted)
 
     def test_phone_of_another_mme(self):
         """A phone that comes with a foreign GUTI is the one whose IMSI it then tells."""
         rows, _ = rows_of("foreign_guti")
-        [phone] = CHART.Ends(rows).phones
+        [phone] = LANES.Ends(rows).phones
         self.assertEqual(phone.name(), "IMSI 001010000000001")
 
     def test_phones_that_are_not_known(self):
@@ -190,7 +186,7 @@ class Text(unittest.TestCase):
                              ("guti_of_other_plmn", ["IMSI 001010000000001", "UE 2 at station 0"]),
                              ("unknown_mme_id", ["UE 1 at station 0"])):
             with self.subTest(row=name):
-                self.assertEqual([phone.name() for phone in CHART.Ends(rows_of(name)[0]).told], phones)
+                self.assertEqual([phone.name() for phone in LANES.Ends(rows_of(name)[0]).told], phones)
 
     def test_phones_and_stations(self):
         """Each phone and each station has its lane: a path switch moves no phone to another."""
@@ -198,7 +194,7 @@ class Text(unittest.TestCase):
                                        ("two_phones_on_two_stations", ["001010000000001", "001010000000002"], [0, 127]),
                                        ("two_phones_on_one_radio_id", ["001010000000001", "001010000000002"], [0])):
             with self.subTest(row=name):
-                found = CHART.Ends(rows_of(name)[0])
+                found = LANES.Ends(rows_of(name)[0])
                 self.assertEqual([phone.name() for phone in found.phones], ["IMSI " + imsi for imsi in phones])
                 self.assertEqual(found.stations, stations)
 
@@ -207,7 +203,7 @@ class Text(unittest.TestCase):
         trace = ATTACHES.attached(60)[0]
         read = RUNS.read_trace(trace.text().encode())
         steps = RUNS.matched(read, RUNS.read_answers(trace.answer_text().encode()))
-        text = CHART.text_of(CHART.rows_of(read, steps), 0, 120)
+        text = TEXT.text_of(ROWS.rows_of(read, steps), 0, 120)
         self.assertLessEqual(max(map(len, text.split("\n"))), 120)
         self.assertEqual(len(re.findall(r"- P\d+ ATTACH REQUEST -", text)), 60)
         self.assertIn("- P60 ATTACH COMPLETE -", text)
@@ -219,12 +215,12 @@ class Text(unittest.TestCase):
         """A chart is the same whether one process draws it, or four a part each."""
         trace = ATTACHES.attached(60)[0]
         read = RUNS.read_trace(trace.text().encode())
-        rows = CHART.rows_of(read, RUNS.matched(read, RUNS.read_answers(trace.answer_text().encode())))
+        rows = ROWS.rows_of(read, RUNS.matched(read, RUNS.read_answers(trace.answer_text().encode())))
         with unittest.mock.patch.object(os, "sched_getaffinity", lambda process: range(4)):
-            for drawn in (lambda: CHART.text_of(rows, 7, 120), lambda: CHART.svg_of(rows, 7)):
+            for drawn in (lambda: TEXT.text_of(rows, 7, 120), lambda: PICTURE.svg_of(rows, 7)):
                 whole = drawn()
-                with unittest.mock.patch.object(CHART.abreast, "LEAST", 80), \
-                        unittest.mock.patch.object(CHART.abreast, "started", wraps=CHART.abreast.started) as started:
+                with unittest.mock.patch.object(ABREAST, "LEAST", 80), \
+                        unittest.mock.patch.object(ABREAST, "started", wraps=ABREAST.started) as started:
                     self.assertEqual(drawn(), whole)
                 self.assertEqual(started.call_count, 3)
 
@@ -239,7 +235,7 @@ class Text(unittest.TestCase):
         rows, end = rows_of("tau_moves_paging")
         for width in (80, 90, 100, 150):
             with self.subTest(width=width):
-                self.assertLessEqual(max(map(len, CHART.text_of(rows, end, width).split("\n"))), width)
+                self.assertLessEqual(max(map(len, TEXT.text_of(rows, end, width).split("\n"))), width)
 
     def test_standard_input(self):
         trace = (tools.ROWS / "unknown_imsi.trace").read_bytes()
@@ -258,18 +254,18 @@ class Svg(unittest.TestCase):
         for name in tools.playable():
             with self.subTest(row=name):
                 rows, end = rows_of(name)
-                root = xml.etree.ElementTree.fromstring(CHART.svg_of(rows, end))
+                root = xml.etree.ElementTree.fromstring(PICTURE.svg_of(rows, end))
                 arrows = [line for line in root.iter(SVG + "line") if line.get("class") == "arrow"]
                 self.assertEqual(len(arrows), sum(len(row.arrows) for row in rows))
                 faults = [group for group in root.iter(SVG + "g") if group.get("class") == "fault"]
-                self.assertEqual(len(faults), sum(row.kind == CHART.FAULT for row in rows))
+                self.assertEqual(len(faults), sum(row.kind == ROWS.FAULT for row in rows))
                 self.assertEqual([group.find(SVG + "text[.='!']") is None for group in faults], [False] * len(faults))
                 width, height = float(root.get("width")), float(root.get("height"))
                 self.assertEqual(root.get("viewBox"), "0 0 %.0f %.0f" % (width, height))
                 for text in root.iter(SVG + "text"):
                     self.assertLessEqual(float(text.get("y")), height)
                     if text.get("text-anchor") == "start":
-                        self.assertLessEqual(float(text.get("x")) + len(text.text or "") * CHART.CHARACTER, width)
+                        self.assertLessEqual(float(text.get("x")) + len(text.text or "") * PICTURE.CHARACTER, width)
 
     def test_lines_of_the_trace(self):
         """Each row says which line of the trace it is of: an event its own, an answer the event's (lines counted by hand)."""
@@ -288,7 +284,7 @@ class Svg(unittest.TestCase):
 
     def test_signs(self):
         """A legend has what the signs mean, above the lanes."""
-        texts = list(xml.etree.ElementTree.fromstring(CHART.svg_of(*rows_of("unknown_imsi"))).iter(SVG + "text"))
+        texts = list(xml.etree.ElementTree.fromstring(PICTURE.svg_of(*rows_of("unknown_imsi"))).iter(SVG + "text"))
         head = min(float(text.get("y")) for text in texts if text.text == "MME")
         signs = [text for text in texts if (text.get("class") or "").startswith("sign-")]
         self.assertEqual([text.text.split(":")[0] for text in signs], ["! red", "cross", "green", "2 of 4", "mouse on a row"])
@@ -299,8 +295,8 @@ class Svg(unittest.TestCase):
         """With many phones the first station stands a step from the last one, and each label ends between the first lane and it."""
         trace = ATTACHES.attached(12)[0]
         read = RUNS.read_trace(trace.text().encode())
-        rows = CHART.rows_of(read, RUNS.matched(read, RUNS.read_answers(trace.answer_text().encode())))
-        root = xml.etree.ElementTree.fromstring(CHART.svg_of(rows, 0))
+        rows = ROWS.rows_of(read, RUNS.matched(read, RUNS.read_answers(trace.answer_text().encode())))
+        root = xml.etree.ElementTree.fromstring(PICTURE.svg_of(rows, 0))
         heads = {text.text: float(text.get("x")) for text in root.iter(SVG + "text") if text.get("class") == "head"}
         steps = {heads["P%d" % (at + 1)] - heads["P%d" % at] for at in range(1, 12)}
         self.assertEqual(steps, {heads["E0"] - heads["P12"]})
@@ -310,7 +306,7 @@ class Svg(unittest.TestCase):
                   for text in group.iter(SVG + "text") if text.text == label]
         self.assertEqual(text.get("text-anchor"), "end")
         self.assertLess(float(text.get("x")), heads["E0"])
-        self.assertGreater(float(text.get("x")) - CHART.CHARACTER * len(label), heads["P1"])
+        self.assertGreater(float(text.get("x")) - PICTURE.CHARACTER * len(label), heads["P1"])
 
     def test_program(self):
         done = chart("--svg", tools.ROWS / "attach_whole.trace", tools.ROWS / "attach_whole.answers")

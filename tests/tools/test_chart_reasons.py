@@ -7,11 +7,11 @@ import tempfile
 import unittest
 import xml.etree.ElementTree
 
-import failures
-import tools
+from tests.tools import failures, tools
+from tools import runs as RUNS
+from tools.charting import lanes as LANES, rows as ROWS, svg as PICTURE, text as TEXT
+from tools.eps import story as STORY
 
-CHART = tools.module("tools/chart")
-RUNS, STORY = CHART.runs, CHART.story
 SVG = "{http://www.w3.org/2000/svg}"
 
 # A phone sends ATTACH COMPLETE again (TS 24.301 clause 4.4.3.2: a count is taken once).
@@ -32,11 +32,11 @@ def rows_of(name):
     trace = next(failure for failure in failures.FAILURES if failure.name == name).make()
     read = RUNS.read_trace(trace.text().encode())
     run = STORY.exact_run(read, RUNS.read_answers(trace.answer_text().encode()))
-    return CHART.rows_of(read, run.steps, run.told), RUNS.end_of(run.steps)
+    return ROWS.rows_of(read, run.steps, run.told), RUNS.end_of(run.steps)
 
 
 def text_of(name):
-    return CHART.text_of(*rows_of(name), 120)
+    return TEXT.text_of(*rows_of(name), 120)
 
 
 class Text(unittest.TestCase):
@@ -51,8 +51,8 @@ class Text(unittest.TestCase):
         for failure in failures.FAILURES:
             with self.subTest(failure=failure.name):
                 rows, _ = rows_of(failure.name)
-                CHART.Ends(rows)
-                said = " ".join(CHART.note_texts(row) for row in rows)
+                LANES.Ends(rows)
+                said = " ".join(LANES.note_texts(row) for row in rows)
                 for line in re.findall(r"^!.*\(TS .*", failure.words, re.M):
                     reason = re.fullmatch(r"! line \d+, \d+ s: .*?(?: is refused| fails| is dropped(?: \(\w+\))?|challenge|"
                                           r" is given up| is paged no more| is answered by a release|"
@@ -99,18 +99,18 @@ class Text(unittest.TestCase):
                                           "which a vector for LTE has")):
             with self.subTest(failure=name):
                 rows, _ = rows_of(name)
-                CHART.Ends(rows)
-                self.assertIn(marked, [CHART.note_texts(row) for row in rows if row.kind == CHART.FAULT])
+                LANES.Ends(rows)
+                self.assertIn(marked, [LANES.note_texts(row) for row in rows if row.kind == ROWS.FAULT])
 
     def test_marks_are_not_cut(self):
         """Where an arrow is too short for its label, the name loses its end, and the mark stays (T3450 has 4 repeats)."""
         rows, end = rows_of("t3450")
         for width in (80, 100):
-            text = CHART.text_of(rows, end, width)
+            text = TEXT.text_of(rows, end, width)
             for mark in ("(%d of 4)" % at for at in range(1, 5)):
                 with self.subTest(width=width, mark=mark):
                     self.assertRegex(text, r"<-* ?A[A-Z ]*(\.\.)? %s -" % re.escape(mark))
-        self.assertIn("(replayed)", CHART.text_of(*rows_of("used_count"), 100))
+        self.assertIn("(replayed)", TEXT.text_of(*rows_of("used_count"), 100))
 
     def test_long_runs(self):
         """A run that is too long for reasons says so, and has them where they are asked for."""
@@ -127,7 +127,7 @@ class Text(unittest.TestCase):
 
 class Svg(unittest.TestCase):
     def test_crosses(self):
-        root = xml.etree.ElementTree.fromstring(CHART.svg_of(*rows_of("used_count")))
+        root = xml.etree.ElementTree.fromstring(PICTURE.svg_of(*rows_of("used_count")))
         self.assertEqual(len([path for path in root.iter(SVG + "path") if path.get("class") == "cross"]), 1)
 
     def test_what_it_is(self):
@@ -140,14 +140,14 @@ class Svg(unittest.TestCase):
         heads = [float(text.get("y")) for text in root.iter(SVG + "text") if text.get("class") == "head" and text.text == "MME"]
         steps = [after - before for before, after in zip(heads, heads[1:] + [float(root.get("height"))])]
         self.assertGreater(len(heads), 1)
-        self.assertLess(max(steps), CHART.SCREEN_HEIGHT + 100)
+        self.assertLess(max(steps), PICTURE.SCREEN_HEIGHT + 100)
 
     def test_marks_are_red(self):
         """The `!` of a fault has the fault's colour, though heads have their own."""
-        style = CHART.STYLE
+        style = PICTURE.STYLE
         self.assertGreater(style.index(".fault text.head { fill: var(--fault) }"), style.index("text.head {"))
 
     def test_times_have_their_own_colour(self):
-        style = CHART.STYLE
+        style = PICTURE.STYLE
         self.assertIn("text.time, .pause text { fill: var(--time) }", style)
         self.assertGreater(style.index("text.time"), style.index(".state text"))

@@ -2,7 +2,7 @@
 import subprocess
 import unittest
 
-import tools
+from tests.tools import tools
 
 ASKED = """. deploy/completion.bash
 COMP_WORDS=("$@")

@@ -11,12 +11,13 @@ import tempfile
 import unittest
 import unittest.mock
 
-import tools
-from fronted import HEAD, IMSI
-from test_capture import INITIAL, PACKETS, SETUP, SETUP_RESPONSE, WANTED, connected, data, down, in_line, pcap, pcapng, sack, up
+from tests.tools import tools
+from tests.tools.fronted import HEAD, IMSI
+from tests.tools.test_capture import (INITIAL, PACKETS, SETUP, SETUP_RESPONSE, WANTED, connected, data, down, in_line, pcap, pcapng,
+                                      sack, up)
 
 MODULES = {name: tools.module("tools/" + name) for name in ("show", "explain", "chart", "capture", "vectors")}
-RUNS, CAPTURES = (importlib.import_module(name) for name in ("runs", "captures"))
+RUNS, CAPTURES = (importlib.import_module("tools." + name) for name in ("runs", "captures"))
 MOST_SECONDS = 1 << 32  # seconds that a file of pcap can have between two packets
 
 

@@ -19,14 +19,12 @@ import time
 import unittest
 import unittest.mock
 
-import tools
-from fronted import HEAD, IMSI, STAND_IN, Running
+from tests.tools import tools
+from tests.tools.fronted import HEAD, IMSI, STAND_IN, Running
+from tools import runs
+from tools.fronting import command, faults, limits
+from tools.tunnels import command as gateway_command, limits as gateway_limits
 
-sys.path.insert(0, str(tools.TOP / "tools"))
-import runs
-from fronting import command, faults, limits
-from tunnels import command as gateway_command, limits as gateway_limits
-del sys.path[0]
 UNIT, CONTAINER, README = (tools.TOP / "deploy" / name for name in ("soizkadur@.service", "Containerfile", "README.md"))
 GATEWAY = tools.TOP / "deploy" / "soizkadur-gateway@.service"
 PACKAGE = tools.TOP / "deploy" / "package"

@@ -7,23 +7,19 @@ import pathlib
 import random
 import re
 import struct
-import sys
 import types
 import unittest
 import unittest.mock
 
-import hss
-import tools
-from hss import (AIR, CER, CLR, DPR, DSR, DWR, E, IDR, P, PUR, R, REALM, RESULT, RSR, S6A, SESSION, T, ULR, USER_NAME, VENDOR, Hss,
-                 Subscriber, avp)
-from sourced import Running
-from test_s6a import IMSI, MME, NOBODY, WORDS, air, until
+from tests.tools import hss
+from tests.tools.hss import (AIR, CER, CLR, DPR, DSR, DWR, E, IDR, P, PUR, R, REALM, RESULT, RSR, S6A, SESSION, T, ULR, USER_NAME,
+                             VENDOR, Hss, Subscriber, avp)
+from tests.tools.sourced import Running
+from tests.tools.test_s6a import IMSI, MME, NOBODY, WORDS, air, until
 
-sys.path.insert(0, str(tools.TOP / "tools"))
 AVPS, CLIENT, MESSAGES, ORDERS, PEER, PROCEDURES = (
-    importlib.import_module("diameter." + name) for name in ("avps", "client", "messages", "orders", "peer", "procedures"))
-LOOP = importlib.import_module("fronting.loop")
-del sys.path[0]
+    importlib.import_module("tools.diameter." + name) for name in ("avps", "client", "messages", "orders", "peer", "procedures"))
+LOOP = importlib.import_module("tools.fronting.loop")
 MUTATED = 10000
 WIRESHARK = pathlib.Path("/usr/share/wireshark/diameter")
 

@@ -1,8 +1,6 @@
 """What `tests/edits` carries over from a commit without trying it, by names alone and where edits were only added; which function an
 edit changes; and what it makes of a check's words where a proof file doesn't fit the edit."""
 import contextlib
-import importlib.machinery
-import importlib.util
 import io
 import pathlib
 import subprocess
@@ -11,24 +9,21 @@ import types
 import unittest
 from unittest import mock
 
-import tools
+from tests.editing import records, trials, verdicts
 
-LOADER = importlib.machinery.SourceFileLoader("edits_of_crates", str(tools.TOP / "tests" / "edits"))
-EDITS = importlib.util.module_from_spec(importlib.util.spec_from_loader(LOADER.name, LOADER))
-LOADER.exec_module(EDITS)
 EDIT = "file: src/lib.rt\nold: one\nnew: two\n"
 
 
 class Edits(unittest.TestCase):
     def setUp(self):
         self.top = pathlib.Path(self.enterContext(tempfile.TemporaryDirectory()))
-        self.enterContext(mock.patch.multiple(EDITS, TOP=str(self.top), RECORD=str(self.top / "tests" / "edits.tried")))
+        self.enterContext(mock.patch.multiple(records, TOP=str(self.top), RECORD=str(self.top / "tests" / "edits.tried")))
         self.write("crates.txt", "low:\nhigh: low\n")
         for name in ("low", "high"):
             self.write("crates/%s/src/lib.rt" % name, "fn count() -> u64 {\n    one\n}\n")
             self.write("crates/%s/edits/first.edit" % name, EDIT)
         self.write("tests/edits.tried", "")
-        EDITS.record({name: (EDITS.digest_of(name), 1) for name in ("low", "high")})
+        records.record({name: (records.digest_of(name), 1) for name in ("low", "high")})
         for words in (["init", "-q"], ["add", "-A"], ["-c", "user.name=a", "-c", "user.email=a@b", "commit", "-q", "-m", "a text"]):
             subprocess.run(["git", *words], cwd=self.top, check=True)
 
@@ -40,18 +35,18 @@ class Edits(unittest.TestCase):
     def carried(self, renaming):
         self.write("map", renaming)
         with contextlib.redirect_stdout(io.StringIO()) as said:
-            status = EDITS.carry(str(self.top / "map"), "HEAD")
+            status = records.carry(str(self.top / "map"), "HEAD")
         return status, said.getvalue().splitlines()
 
     def test_text_that_stands(self):
-        self.assertEqual(EDITS.changed(), [])
+        self.assertEqual(records.changed(), [])
         self.write("crates/low/src/lib.rt", "fn count() -> u64 { one + 1 }\n")
-        self.assertEqual(EDITS.changed(), ["low"])
+        self.assertEqual(records.changed(), ["low"])
 
     def test_added(self):
         """Of a crate with more edits than at the commit the new ones alone are left to try."""
         self.write("crates/low/edits/second.edit", EDIT)
-        found = EDITS.added_since("HEAD")
+        found = records.added_since("HEAD")
         self.assertEqual({name: [pathlib.Path(edit).name for edit in edits] for name, edits in found.items()}, {"low": ["second.edit"]})
 
     def test_added_beside_another_change(self):
@@ -61,14 +56,14 @@ class Edits(unittest.TestCase):
                 subprocess.run(["git", "checkout", "-q", "."], cwd=self.top, check=True)
                 self.write("crates/low/edits/second.edit", EDIT)
                 self.write("crates/low/" + file, text)
-                self.assertEqual(EDITS.added_since("HEAD"), {})
+                self.assertEqual(records.added_since("HEAD"), {})
                 (self.top / "crates" / "low" / file).unlink()
 
     def test_taken_away(self):
         """Nor where an edit that was tried is gone."""
         (self.top / "crates" / "low" / "edits" / "first.edit").rename(self.top / "crates" / "low" / "edits" / "second.edit")
-        self.assertEqual(EDITS.added_since("HEAD"), {})
-        self.assertEqual(EDITS.changed(), ["low"])
+        self.assertEqual(records.added_since("HEAD"), {})
+        self.assertEqual(records.changed(), ["low"])
 
     def test_renamed(self):
         """A text that is the commit's by other names keeps its record; one that changed otherwise too doesn't."""
@@ -77,12 +72,12 @@ class Edits(unittest.TestCase):
         self.write("crates/high/specs/Lib.antt", "one : N\n")
         status, said = self.carried("* count number\n")
         self.assertEqual((status, said[-1]), (1, "edits: to be tried, since more than names has changed: high"))
-        self.assertEqual(EDITS.changed(), ["high"])
+        self.assertEqual(records.changed(), ["high"])
 
     def test_function_of_an_edit(self):
         """It is found in its own module, or else by its type, whose `impl` stands in another one."""
         text = "impl Draft {\n    pub fn send(&mut self) {\n        one\n    }\n}\n"
-        place = EDITS.place_of(text, text.index("one"), "src/actions.rt")
+        place = verdicts.place_of(text, text.index("one"), "src/actions.rt")
         elsewhere, others = "low::draft::Draft::send", ["low::draft::Draft::of", "low::draft::Seal::send"]
         for names, found in (([*others, elsewhere], elsewhere),
                              ([elsewhere, "low::actions::Draft::send"], "low::actions::Draft::send"),
@@ -154,7 +149,7 @@ class Fitting(unittest.TestCase):
 
         rt = types.SimpleNamespace(checked=checked, REFUSED="", AT_LIMIT="", unread=lambda line, texts: False,
                                    edited=lambda text, folder: ({"src/reader.rt": "an edited text"}, None))
-        return EDITS.Trial(rt, types.SimpleNamespace(name="low", folder=str(self.top)), None, None, None)
+        return trials.Trial(rt, types.SimpleNamespace(name="low", folder=str(self.top)), None, None, None)
 
     def fitted(self, *words):
         trial = self.trial(*words)
@@ -164,7 +159,7 @@ class Fitting(unittest.TestCase):
         """That answers name what isn't there is no refusal by the contract, whatever else stays open for it."""
         for said, is_by_contract in ((BY_NAME, False), (BY_NAME + OPEN_RETURNS, False), (BY_TYPE, True), (BY_NAME + BY_TYPE, True),
                                      (OPEN_INVARIANT, True), (BY_NAME.replace("/align/", "/end/"), True)):
-            self.assertEqual(EDITS.is_by_contract(said, ALIGN), is_by_contract, said)
+            self.assertEqual(verdicts.is_by_contract(said, ALIGN), is_by_contract, said)
 
     def test_batch(self):
         """In a check of several edits such a one is left to be tried alone."""
@@ -172,7 +167,7 @@ class Fitting(unittest.TestCase):
         for said, is_left in ((BY_NAME + OPEN_RETURNS, True), (BY_TYPE, False)):
             trial = self.trial("%sfn %s: not proved\n%s" % (said, ALIGN, ended))
             trial.notes, trial.free = mock.Mock(), ["a copy"]
-            refused, left = trial.try_batch([(self.edit, EDITS.place_of_edit(trial.crate, self.edit))])
+            refused, left = trial.try_batch([(self.edit, verdicts.place_of_edit(trial.crate, self.edit))])
             self.assertEqual((left, len(refused)), ([self.edit] if is_left else [], int(not is_left)))
 
     def test_without_what_does_not_fit(self):

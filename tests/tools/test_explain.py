@@ -9,30 +9,24 @@ import pathlib
 import random
 import re
 import subprocess
-import sys
 import tempfile
 import time
 import unittest
 from unittest import mock
 
-import failures
-import tools
+from tests.tools import failures, tools
 
 EXPLAIN = tools.module("tools/explain")
-sys.path.insert(0, str(tools.TOP / "tools"))
-RUNS = importlib.import_module("runs")
-STORY = importlib.import_module("eps.story")
-MESSAGES = importlib.import_module("eps.messages")
-NAS, MACS, CIPHERS, TELLING = (importlib.import_module("eps." + name) for name in ("nas", "macs", "ciphers", "telling"))
-QUICK, WORLD, WRITING = (importlib.import_module("eps." + name) for name in ("quick", "world", "writing"))
-SKIPPING = importlib.import_module("eps.scripts")
-REASONS = importlib.import_module("eps.reasons")
-GIVING = importlib.import_module("fronting.giving")
-del sys.path[0]
-sys.path.insert(0, str(tools.TOP / "tests" / "hostile"))
-FUZZ = importlib.import_module("fuzz")
-LABORATORY = importlib.import_module("laboratory")
-del sys.path[0]
+RUNS = importlib.import_module("tools.runs")
+STORY = importlib.import_module("tools.eps.story")
+MESSAGES = importlib.import_module("tools.eps.messages")
+NAS, MACS, CIPHERS, TELLING = (importlib.import_module("tools.eps." + name) for name in ("nas", "macs", "ciphers", "telling"))
+QUICK, WORLD, WRITING = (importlib.import_module("tools.eps." + name) for name in ("quick", "world", "writing"))
+SKIPPING = importlib.import_module("tools.eps.scripts")
+REASONS = importlib.import_module("tools.eps.reasons")
+GIVING = importlib.import_module("tools.fronting.giving")
+FUZZ = importlib.import_module("tests.hostile.fuzz")
+LABORATORY = importlib.import_module("tests.hostile.laboratory")
 
 PROGRAM = tools.TOP / "crates" / "mme" / "out" / "mme"
 SESSIONS, EVENTS = 4, 1000  # of random events, by each seed
@@ -392,7 +386,7 @@ class Speed(unittest.TestCase):
 
 class Macs(unittest.TestCase):
     def test_many(self):
-        """Of many messages at once the MACs are those of RFC 4493 clause 4, and of each under its key what bench/lte.py has."""
+        """Of many messages at once the MACs are those of RFC 4493 clause 4, and of each under its key what reference/lte.py has."""
         key = bytes.fromhex("2b7e151628aed2a6abf7158809cf4f3c")
         text = bytes.fromhex("6bc1bee22e409f96e93d7e117393172aae2d8a571e03ac9c9eb76fac45af8e51"
                              "30c81c46a35ce411e5fbc1191a0a52eff69f2445df4f9b17ad2b417be66c3710")
@@ -426,7 +420,7 @@ class Macs(unittest.TestCase):
 
 
 def mac_of(kasme, count, direction, message, size):
-    """The last octets of a MAC, by bench/lte.py."""
+    """The last octets of a MAC, by reference/lte.py."""
     return failures.lte.eia2(failures.lte.Cmac(failures.lte.nas_integrity_key(kasme)), count, direction, message)[-size:]
 
 

@@ -9,13 +9,9 @@ import tempfile
 import time
 import unittest
 
-import tools
-from fronted import HEAD, STAND_IN
-
-sys.path.insert(0, str(tools.TOP / "tools"))
-import captures
-import following
-del sys.path[0]
+from tests.tools import tools
+from tests.tools.fronted import HEAD, STAND_IN
+from tools import captures, following
 
 FIRST = "# segment 1, begun 2026-11-27 06:00:00 UTC\n"
 EVENTS = ["up 0", "in 0 0011001f00", "in 0 aabb", "tick 1", "lost 0", "up 3", "in 3 cc"]

@@ -1,5 +1,5 @@
 """tools/front: stations, floods, ends, the control socket and words, against a stand-in for the MME; and the whole round against
-the program itself, where it is built: what phones are owed comes from bench/phones.py, and what they got from the log, played
+the program itself, where it is built: what phones are owed comes from reference/phones.py, and what they got from the log, played
 again."""
 import collections
 import contextlib
@@ -11,22 +11,17 @@ import signal
 import socket
 import stat
 import subprocess
-import sys
 import tempfile
 import threading
 import time
 import unittest
 import unittest.mock
 
-import tools
-from fronted import BABBLES, ENDS, HEAD, IMSI, KILLS, MANY, NOBODY, PROGRAM, SLOW, Connected, Running, said
-
-sys.path.insert(0, str(tools.TOP / "tools"))
-import runs as RUNS
-from fronting import limits
-sys.path.insert(0, str(tools.TOP / "bench"))
-PHONES = tools.module("bench/phones.py")
-del sys.path[:2]
+from reference import phones as PHONES
+from tests.tools import tools
+from tests.tools.fronted import BABBLES, ENDS, HEAD, IMSI, KILLS, MANY, NOBODY, PROGRAM, SLOW, Connected, Running, said
+from tools import runs as RUNS
+from tools.fronting import limits
 
 HAS_SCTP = "SCTP" in pathlib.Path("/proc/net/protocols").read_text(encoding="ascii")
 

@@ -10,17 +10,14 @@ import time
 import types
 import unittest
 
-import tools
-from test_front_page import Served
-
-sys.path.insert(0, str(tools.TOP / "tools"))
-from fronting import limits
-from fronting.aside import Aside
-from fronting.census import TOGETHER, Census
-from fronting.exchange import Exchange
-from fronting.meters import Meters
-from fronting.provisioning import Head
-del sys.path[0]
+from tests.tools import tools
+from tests.tools.test_front_page import Served
+from tools.fronting import limits
+from tools.fronting.aside import Aside
+from tools.fronting.census import TOGETHER, Census
+from tools.fronting.exchange import Exchange
+from tools.fronting.meters import Meters
+from tools.fronting.provisioning import Head
 
 SUBSCRIBERS, CLIENTS, SECONDS = 8000, 64, 8
 # Of an answer, in seconds: a page that doesn't give way takes a minute, and a busy machine more than one second. Of memory beyond

@@ -3,25 +3,18 @@ import collections
 import json
 import pathlib
 import signal
-import sys
 import tempfile
 import types
 import unittest
 import unittest.mock
 
-import tools
-from fronted import FRAME, IMSI, PROGRAM
-from test_front_page import Served
-
-sys.path.insert(0, str(tools.TOP / "tools"))
-sys.path.insert(0, str(tools.TOP / "bench"))
-LTE = tools.module("bench/lte.py")
-PHONES = tools.module("bench/phones.py")
-from fronting.attaches import Attaches
-from fronting.challenges import challenged
-from fronting.provisioning import Head
-from fronting.stock import Stock
-del sys.path[:2]
+from reference import lte as LTE, phones as PHONES
+from tests.tools.fronted import FRAME, IMSI, PROGRAM
+from tests.tools.test_front_page import Served
+from tools.fronting.attaches import Attaches
+from tools.fronting.challenges import challenged
+from tools.fronting.provisioning import Head
+from tools.fronting.stock import Stock
 
 NETWORK, STATION = PHONES.Network(), PHONES.Station(0)
 COMPLETED = 'soizkadur_attaches_total{step="completed"}'

@@ -7,20 +7,14 @@ import pathlib
 import resource
 import shutil
 import signal
-import sys
 import tempfile
 import unittest
 
-import tools
-from fronted import HEAD, IMSI, PROGRAM, REMEMBERED, STAND_IN, Running, events_of, said
-from test_front_log import LTE, PHONES, Talk, give, whole
-
-sys.path.insert(0, str(tools.TOP / "tools"))
-import runs
-import s1ap
-from fronting import associations, challenges, journal, locking, provisioning, resuming, segments, used
-from fronting.faults import Failed
-del sys.path[0]
+from tests.tools.fronted import HEAD, IMSI, PROGRAM, REMEMBERED, STAND_IN, Running, events_of, said
+from tests.tools.test_front_log import LTE, PHONES, Talk, give, whole
+from tools import runs, s1ap
+from tools.fronting import associations, challenges, journal, locking, provisioning, resuming, segments, used
+from tools.fronting.faults import Failed
 
 STILL = ("--second", "86400")  # a run in which no time passes
 CONTEXT_REQUEST, DOWNLINK = b"\0\x09", b"\0\x0b"

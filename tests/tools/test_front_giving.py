@@ -4,8 +4,8 @@ import subprocess
 import tempfile
 import unittest
 
-import tools
-from fronted import HEAD, IMSI, STAND_IN, Running
+from tests.tools import tools
+from tests.tools.fronted import HEAD, IMSI, STAND_IN, Running
 
 MOST_SUBSCRIBERS = 32768  # that an MME takes (README.md, "A trace")
 PIPE = 1 << 20  # octets of the longest pipe of one who isn't root (pipe(7))

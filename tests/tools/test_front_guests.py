@@ -1,22 +1,17 @@
 """Those who ask a front, at its control socket or for its page: how many at a time, how much they say, and how long they take."""
 import contextlib
 import socket
-import sys
 import tempfile
 import time
 import types
 import unittest
 import unittest.mock
 
-import tools
-from fronted import HEAD, IMSI, Running
-
-sys.path.insert(0, str(tools.TOP / "tools"))
-from fronting import limits
-from fronting.control import Control
-from fronting.guests import Door
-from fronting.loop import Loop
-del sys.path[0]
+from tests.tools.fronted import HEAD, IMSI, Running
+from tools.fronting import limits
+from tools.fronting.control import Control
+from tools.fronting.guests import Door
+from tools.fronting.loop import Loop
 
 GUESTS, OCTETS, SECONDS = 3, 100, 0.3  # of a door here
 MIB = 1 << 20

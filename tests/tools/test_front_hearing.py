@@ -1,17 +1,10 @@
 """tools/fronting/hearing.py: what a phone with a stored security context sends is handed on plain. The messages are made from the
-standards' formats (bench/lte.py), each beside the plain one that the standard takes it for."""
-import sys
+standards' formats (reference/lte.py), each beside the plain one that the standard takes it for."""
 import unittest
 
-import tools
-from fronted import HEAD, Running
-
-sys.path.insert(0, str(tools.TOP / "tools"))
-sys.path.insert(0, str(tools.TOP / "bench"))
-LTE = tools.module("bench/lte.py")
-PHONES = tools.module("bench/phones.py")
-from fronting import hearing
-del sys.path[0]
+from reference import lte as LTE, phones as PHONES
+from tests.tools.fronted import HEAD, Running
+from tools.fronting import hearing
 
 STATION, NETWORK = PHONES.Station(0), PHONES.Network()
 RESPONSE = bytes.fromhex("0753085942ca163b17c270")  # AUTHENTICATION RESPONSE with RES of eight octets (TS 24.301 clause 8.2.8)

@@ -7,10 +7,10 @@ import subprocess
 import sys
 import unittest
 
-import tools
-from browsing import IS_MISSING, Browser
-from fronted import HEAD, IMSI, PROGRAM
-from test_front_page import ERROR, PHONES, SETUP, Spoken, lte
+from tests.tools import tools
+from tests.tools.browsing import IS_MISSING, Browser
+from tests.tools.fronted import HEAD, IMSI, PROGRAM
+from tests.tools.test_front_page import ERROR, PHONES, SETUP, Spoken, lte
 
 WIDE, NARROW = 1280, 420
 ENB_NAME, ENB_ID, TACS = 60, 0x1A2B3, (1, 0x2A)

@@ -7,20 +7,17 @@ import os
 import pathlib
 import signal
 import subprocess
-import sys
 import tempfile
 import time
 import unittest
 
-import tools
-from fronted import HEAD, IMSI, PROGRAM, Running, events_of, said
-from test_front_log import LTE, PHONES, Talk, give, whole
+from tests.tools import tools
+from tests.tools.fronted import HEAD, IMSI, PROGRAM, Running, events_of, said
+from tests.tools.test_front_log import LTE, PHONES, Talk, give, whole
 
-sys.path.insert(0, str(tools.TOP / "tools"))
-RUNS = importlib.import_module("runs")
-KEYS = importlib.import_module("fronting.keys")
-PROVISIONING = importlib.import_module("fronting.provisioning")
-del sys.path[0]
+RUNS = importlib.import_module("tools.runs")
+KEYS = importlib.import_module("tools.fronting.keys")
+PROVISIONING = importlib.import_module("tools.fronting.provisioning")
 
 NO_KEYS = ("--log-keys", "no")
 FAILED = ((2, 2), 1)  # nas authentication-failure (TS 36.413 clause 9.2.1.3)

@@ -1,25 +1,14 @@
 """tools/front killed again and again under phones (bench/kills.py): nothing is used twice, and nothing that was sent before is of
 use. Where the log lacks its last second, and LOG.used is lost too, the storm finds what is used twice. What it finds that by, a
 listener with the phones' keys, finds each thing that may not be."""
-import sys
 import tempfile
 import types
 import unittest
 from unittest import mock
 
-import tools
-from fronted import LIBRARY, PROGRAM
-
-sys.path.insert(0, str(tools.TOP / "bench"))
-import ends
-import kills
-import lives
-import lte
-import phones
-import replays
-import watch
-import wire
-del sys.path[0]
+from bench import ends, kills, lives, replays, watch, wire
+from reference import lte, phones
+from tests.tools.fronted import LIBRARY, PROGRAM
 
 SHORT = ("--phones", "6", "--vectors", "12", "--seed", "7")
 # What a storm does that is short and finds nothing.

@@ -7,20 +7,14 @@ import resource
 import signal
 import socket
 import subprocess
-import sys
 import time
 import unittest
 
-import tools
-from fronted import HANGS, HEAD, IMSI, OF_SLOT, PROGRAM, REMEMBERED, Connected, Running, events_of
-
-sys.path.insert(0, str(tools.TOP / "tools"))
-from fronting import limits
-from fronting.segments import older_segments
-sys.path.insert(0, str(tools.TOP / "bench"))
-LTE = tools.module("bench/lte.py")
-PHONES = tools.module("bench/phones.py")
-del sys.path[:2]
+from reference import lte as LTE, phones as PHONES
+from tests.tools import tools
+from tests.tools.fronted import HANGS, HEAD, IMSI, OF_SLOT, PROGRAM, REMEMBERED, Connected, Running, events_of
+from tools.fronting import limits
+from tools.fronting.segments import older_segments
 
 ERROR = bytes.fromhex("000f40070000010002400110")  # an ERROR INDICATION, which the stand-in sends back
 OTHER_SUB = "sub 001010000000002 0a000002 0a000064 00000002\n"

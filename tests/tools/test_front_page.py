@@ -3,7 +3,6 @@ import html
 import html.parser
 import re
 import socket
-import sys
 import types
 import unittest
 import unittest.mock
@@ -11,22 +10,16 @@ import urllib.error
 import urllib.request
 import xml.etree.ElementTree
 
-import tools
-from fronted import HEAD, IMSI, OF_SLOT, PROGRAM, Running
-
-sys.path.insert(0, str(tools.TOP / "tools"))
-sys.path.insert(0, str(tools.TOP / "bench"))
-PHONES = tools.module("bench/phones.py")
-import lte
-from eps.reasons import SCTP, Why
-from eps.telling import Telling
-from fronting import history as history_of_page
-from fronting import ladder, limits, page, status
-from fronting.history import STRANGER, History
-from fronting.meters import RECENT, Meters
-from fronting.provisioning import Head
-from fronting.teller import Reason
-del sys.path[:2]
+from reference import lte, phones as PHONES
+from tests.tools.fronted import HEAD, IMSI, OF_SLOT, PROGRAM, Running
+from tools.eps.reasons import SCTP, Why
+from tools.eps.telling import Telling
+from tools.fronting import history as history_of_page
+from tools.fronting import ladder, limits, page, status
+from tools.fronting.history import STRANGER, History
+from tools.fronting.meters import RECENT, Meters
+from tools.fronting.provisioning import Head
+from tools.fronting.teller import Reason
 
 # A line of the text form: https://prometheus.io/docs/instrumenting/exposition_formats
 LINE = re.compile(r'[a-z_]+(\{[a-z]+="([^"\\\n]|\\["\\n])*"(,[a-z]+="([^"\\\n]|\\["\\n])*")*\})? -?[0-9.e+-]+$')
@@ -68,7 +61,7 @@ class Served(unittest.TestCase):
 
 
 class Spoken(Served):
-    """Phones and stations of bench/phones.py that speak with the MME through a front, step by step."""
+    """Phones and stations of reference/phones.py that speak with the MME through a front, step by step."""
 
     def provision(self, *vectors):
         """A phone for each number of vectors, and the head that they are provisioned by."""

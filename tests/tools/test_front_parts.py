@@ -6,31 +6,23 @@ import pathlib
 import socket
 import stat
 import struct
-import sys
 import tempfile
 import time
 import types
 import unittest
 
-import tools
-from fronted import HEAD, IMSI
-
-sys.path.insert(0, str(tools.TOP / "tools"))
-sys.path.insert(0, str(tools.TOP / "bench"))
-LTE = tools.module("bench/lte.py")
-PHONES = tools.module("bench/phones.py")
-import runs as RUNS
-from fronting import crowd, giving, journal, limits, links, provisioning, resuming, sctp, segments, stations
-from fronting.faults import Failed
-from fronting.loop import Loop
-from fronting.meters import Meters
-from fronting.mme import LibraryMme
-from fronting.notify import Manager
-from fronting.pace import Pace
-del sys.path[:2]
-sys.path.insert(0, str(tools.TOP / "python"))
 import soizkadur
-del sys.path[0]
+from reference import lte as LTE, phones as PHONES
+from tests.tools import tools
+from tests.tools.fronted import HEAD, IMSI
+from tools import runs as RUNS
+from tools.fronting import crowd, giving, journal, limits, links, provisioning, resuming, sctp, segments, stations
+from tools.fronting.faults import Failed
+from tools.fronting.loop import Loop
+from tools.fronting.meters import Meters
+from tools.fronting.mme import LibraryMme
+from tools.fronting.notify import Manager
+from tools.fronting.pace import Pace
 
 SETUP = bytes.fromhex("201100170000020069000b000000f11000008001000100574001ff")  # S1 SETUP RESPONSE
 SETUP_REQUEST = LTE.s1_setup_request(PHONES.Network(), PHONES.Station(0))

@@ -5,8 +5,8 @@ import tempfile
 import time
 import unittest
 
-from fronted import PROGRAM
-from power import Field
+from tests.tools.fronted import PROGRAM
+from tests.tools.power import Field
 
 CUTS, LEAST_CUTS, SECONDS = 30, 8, 45  # as many as go in this time, where the machine is busy
 PHONES, MOST_STEPS = 5, 8

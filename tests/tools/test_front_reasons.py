@@ -10,20 +10,16 @@ import types
 import unittest
 import unittest.mock
 
-import tools
-from fronted import HEAD, PROGRAM
-from test_front_page import PHONES, Spoken, lte
-
-sys.path.insert(0, str(tools.TOP / "tools"))
-import runs
-import s1ap
-from eps import story
-from fronting import limits, teller
-from fronting.journal import Batch
-from fronting.loop import Loop
-from fronting.provisioning import Head
-from fronting.teller import Teller
-del sys.path[0]
+from tests.tools import tools
+from tests.tools.fronted import HEAD, PROGRAM
+from tests.tools.test_front_page import PHONES, Spoken, lte
+from tools import runs, s1ap
+from tools.eps import story
+from tools.fronting import limits, teller
+from tools.fronting.journal import Batch
+from tools.fronting.loop import Loop
+from tools.fronting.provisioning import Head
+from tools.fronting.teller import Teller
 
 EXAMPLES = sorted((tools.TOP / "examples").glob("*.trace"))
 REASON = re.compile(r'<text class="reason fault"[^>]*>([^<]*)</text>')

@@ -6,9 +6,7 @@ import sys
 import tempfile
 import unittest
 
-import kernel
-import sctp_inside
-import tools
+from tests.tools import kernel, sctp_inside, tools
 
 SECONDS = 500  # for a kernel; all tests take under 110 on a machine of their own
 KERNELS = 3  # one after the other, where one stops before each test has a verdict

@@ -2,23 +2,18 @@
 import errno
 import os
 import pathlib
-import sys
 import tempfile
 import types
 import unittest
 import unittest.mock
 
-import tools
-from fronted import HEAD, IMSI, REMEMBERED, Running, said
+from reference import lte as LTE
+from tests.tools.fronted import HEAD, IMSI, REMEMBERED, Running, said
+from tools.fronting import exchange, journal, limits, provisioning, resuming, segments, syncing, used
+from tools.fronting.faults import LOG_FAILS, Failed
+from tools.fronting.loop import Loop
+from tools.fronting.meters import Meters
 
-sys.path.insert(0, str(tools.TOP / "tools"))
-from fronting import exchange, journal, limits, provisioning, resuming, segments, syncing, used
-from fronting.faults import LOG_FAILS, Failed
-from fronting.loop import Loop
-from fronting.meters import Meters
-del sys.path[0]
-
-LTE = tools.module("bench/lte.py")
 DOWN, OTHER_DOWN = b"out s0 0 000b01\n", b"out s0 0 000b02\n"
 MARK = b"refused 5\n"
 FAULT = OSError(errno.EIO, os.strerror(errno.EIO))

@@ -5,8 +5,7 @@ import shutil
 import subprocess
 import sys
 
-import test_proving
-import tools
+from tests.tools import test_proving, tools
 
 # `rt ci` proves each crate, leaves its library and the program; with a file `fails-ci` one proof fails at the end.
 TOOLCHAIN = """#!/bin/sh
@@ -40,7 +39,7 @@ import importlib.machinery, importlib.util, pathlib, shutil, sys
 loader = importlib.machinery.SourceFileLoader("building", "tests/library/building")
 building = importlib.util.module_from_spec(importlib.util.spec_from_loader("building", loader))
 loader.exec_module(building)
-import library
+from tools.program import library
 library.compile_over_built = lambda archive, processor: shutil.copy("%(room)s/compiled.a", archive)
 building.library_in(pathlib.Path("%(room)s/tests"), pathlib.Path(sys.argv[2]))
 """
@@ -57,7 +56,8 @@ class GateLeaves(test_proving.Clone):
         super().setUp()
         if not all(map(shutil.which, ("cc", "ld", "ar", "objcopy", "readelf"))):
             self.skipTest("no compiler, or no binutils")
-        for name in (".ci/run", "tests/beside.py", "tests/installed.py", "tests/package/roots.py"):
+        for name in (".ci/run", "tests/__init__.py", "tests/beside.py", "tests/installed.py", "tests/package/__init__.py",
+                     "tests/package/roots.py"):
             (self.top / name).parent.mkdir(parents=True, exist_ok=True)
             shutil.copy(tools.TOP / name, self.top / name)
         (self.top / "tests" / "packages").write_text("")
@@ -94,8 +94,8 @@ class GateLeaves(test_proving.Clone):
 
     def is_left(self, processor=None):
         """Whether what the gate compiled would be taken."""
-        code = "import library; print(library.left_by_gate(%r) is not None)" % processor
-        done = subprocess.run([sys.executable, "-B", "-c", code], cwd=self.top / "tools" / "program", env=self.environment(),
+        code = "from tools.program import library; print(library.left_by_gate(%r) is not None)" % processor
+        done = subprocess.run([sys.executable, "-B", "-c", code], cwd=self.top, env=self.environment(),
                               capture_output=True, text=True, check=True, timeout=300)
         return done.stdout == "True\n"
 

@@ -17,16 +17,13 @@ import time
 import unittest
 import unittest.mock
 
-import tools
-
-sys.path.insert(0, str(tools.TOP / "tools"))
-import runs
-from fronting import saying
-from fronting.loop import Loop
-from tunnels import asking, command, feed, gateway, given, gtpu, kept, limits, netlink, page, phones, sockets
-from tunnels.contexts import Context
-from tunnels.devices import Device, Devices
-del sys.path[0]
+from tests.tools import tools
+from tools import runs
+from tools.fronting import saying
+from tools.fronting.loop import Loop
+from tools.tunnels import asking, command, feed, gateway, given, gtpu, kept, limits, netlink, page, phones, sockets
+from tools.tunnels.contexts import Context
+from tools.tunnels.devices import Device, Devices
 
 ADDRESS, NETWORK = "10.0.0.100", ipaddress.IPv4Network("10.45.0.0/16")
 STATION, ANOTHER, STRANGER = "10.1.0.2", "10.2.0.2", "10.3.0.2"

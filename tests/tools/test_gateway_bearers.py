@@ -1,24 +1,18 @@
 """The tunnels that a front tells of: as the MME's answers have them, whatever a station says (fronting/bearers.py), and how they
-are told at the control socket (fronting/followers.py). The messages are made from the standards' formats (bench/lte.py)."""
+are told at the control socket (fronting/followers.py). The messages are made from the standards' formats (reference/lte.py)."""
 import contextlib
 import json
 import pathlib
 import socket
-import sys
 import tempfile
 import time
 import unittest
 import unittest.mock
 
-import tools
-from fronted import FRAME, PATIENCE, Running
-
-sys.path[:0] = [str(tools.TOP / "bench"), str(tools.TOP / "tools")]
-import lte
-import phones
-from fronting import bearers, followers, limits
-from fronting.journal import Batch
-del sys.path[:2]
+from reference import lte, phones
+from tests.tools.fronted import FRAME, PATIENCE, Running
+from tools.fronting import bearers, followers, limits
+from tools.fronting.journal import Batch
 
 REGISTERED_IDLE, REGISTERED = "REGISTERED IDLE ACTIVE", "REGISTERED CONNECTED ACTIVE"
 # The causes transport-resource-unavailable and unknown-PLMN (TS 36.413 clause 9.2.1.3): a group, its width, and a number.

@@ -7,10 +7,7 @@ import sys
 import tempfile
 import unittest
 
-import gateway_inside
-import gateway_world
-import kernel
-import tools
+from tests.tools import gateway_inside, gateway_world, kernel, tools
 
 SECONDS = 1800  # for a kernel; all tests take under 120 on a machine of their own
 INSIDE = tools.TOP / "tests" / "tools" / "gateway_inside.py"

@@ -7,7 +7,8 @@ import sys
 import tempfile
 import unittest
 
-import tools
+from tests import installed
+from tests.tools import tools
 
 INSTALLED = tools.TOP / "tests" / "installed.py"
 APT = """#!/bin/sh
@@ -77,7 +78,7 @@ class Installing(unittest.TestCase):
 
     def test_list(self):
         """The list of this repository is of its form, and each of its tests is there."""
-        for package in tools.module("tests/installed.py").read(tools.TOP / "tests" / "packages"):
+        for package in installed.read(tools.TOP / "tests" / "packages"):
             for name in package.purpose.split(": ")[0].split(", "):
                 self.assertTrue((tools.TOP / name / "run").exists(), name)
 
@@ -86,10 +87,10 @@ class LeftOut(unittest.TestCase):
     def test_skipped(self):
         """Tests that are skipped are counted with why, and failed under CI=true."""
         with tempfile.TemporaryDirectory() as name:
-            folder = pathlib.Path(name, "tools")
-            folder.mkdir()
-            shutil.copy(INSTALLED, name)
-            shutil.copy(tools.TOP / "tests" / "tools" / "run", folder)
+            folder = pathlib.Path(name, "tests", "tools")
+            folder.mkdir(parents=True)
+            for path in ("__init__.py", "installed.py", "tools/__init__.py", "tools/run"):
+                shutil.copy(tools.TOP / "tests" / path, folder.parent / path)
             (folder / "test_it.py").write_text(SKIPPED)
             for ci, told in ((False, ["left out: 2 (no such thing)", "1 passed, 0 failed"]),
                              (True, ["FAILED, left out under CI=true: 2 (no such thing)", "1 passed, 2 failed"])):

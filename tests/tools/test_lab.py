@@ -1,5 +1,5 @@
 """The commands of docs/LAB.md, in their order, by the names of the package: in a clone, and with the files of the package laid out.
-In the program's place stands what bench/phones.py says that an MME owes; those of the live station and of the package need the
+In the program's place stands what reference/phones.py says that an MME owes; those of the live station and of the package need the
 program, and are tried where it is built. Those by which a phone gets to the Internet are tried under a kernel of their own
 (gateway_inside.py), and here those of nftables."""
 import contextlib
@@ -13,13 +13,9 @@ import tempfile
 import unittest
 import xml.etree.ElementTree
 
-import packed
-import tools
-from fronted import PROGRAM
-
-sys.path.insert(0, str(tools.TOP / "bench"))
-PHONES = tools.module("bench/phones.py")
-del sys.path[0]
+from reference import phones as PHONES
+from tests.tools import packed, tools
+from tests.tools.fronted import PROGRAM
 
 DOCUMENT, QUESTIONS = (tools.TOP / "docs" / name for name in ("LAB.md", "QUESTIONS.md"))
 PLAY, SIM = "mme play $lab/lab.trace", "mme sim $lab/station.script"
@@ -35,12 +31,12 @@ IMSI = "001010000000001"
 # the page for the added `data`, and its repeat.
 STAND_IN = """mme() {
     case $1 in
-    sim) python3 -B tests/tools/test_lab.py $lab/vectors ;;
+    sim) python3 -B -m tests.tools.test_lab $lab/vectors ;;
     play)
         sed -n 's/^# //p' $lab/station.trace
         echo state %s REGISTERED IDLE ACTIVE
-        python3 -B tests/tools/test_lab.py $lab/vectors paged
-        python3 -B tests/tools/test_lab.py $lab/vectors paged ;;
+        python3 -B -m tests.tools.test_lab $lab/vectors paged
+        python3 -B -m tests.tools.test_lab $lab/vectors paged ;;
     esac
 }
 """ % IMSI

@@ -7,7 +7,7 @@ import subprocess
 import tempfile
 import unittest
 
-import tools
+from tests.tools import tools
 
 COMMAND = tools.TOP / "docs" / "man"
 NEEDED = ("pandoc", "man")

@@ -7,12 +7,11 @@ import shutil
 import tempfile
 import unittest
 
-import packed
-import tools
-from fronted import HEAD
+from tests.tools import packed, tools
+from tests.tools.fronted import HEAD
 
 # What is named by its path from the top of the repository.
-FOLDERS = "bench|crates|deploy|docs|examples|library|python|tests|tools|[.]ci"
+FOLDERS = "bench|crates|deploy|docs|examples|library|python|reference|tests|tools|[.]ci"
 NAMED = re.compile(r"(?<![\w/.@-])((?:%s)/[\w./@-]*|\./mme\b|[A-Z]+\.md\b|crates\.txt|VERSION\b)" % FOLDERS)
 PAGE = re.compile(r"\bmme(?:-\w+)?\(\d\)")
 WAYS = {"mme-capture": ["in", "out"], "mme-front": ["run", "ask", "fill"]}
@@ -48,6 +47,13 @@ class Installed(unittest.TestCase):
         self.addCleanup(place.unlink)
         told = "mme: --library is for a clone of the repository; this package has the library, %s\n" % place.resolve()
         self.assertEqual(self.ran("mme", "--library"), (70, "", told))
+
+    def test_each_tool(self):
+        """Each of them finds all that it is made of."""
+        for name in packed.PACKAGE.TOOLS:
+            with self.subTest(tool=name):
+                status, _, told = self.ran("mme-" + name, "--help")
+                self.assertEqual((status, told), (0, ""))
 
     def test_folders(self):
         """The package has nothing where services keep and find their own: deploy/README.md says who makes these folders."""

@@ -10,7 +10,7 @@ import time
 import unittest
 import tempfile
 
-import tools
+from tests.tools import tools
 
 # Notes each call, and makes a program; with a file `waits-NAME` it writes half of one first, and waits with a child of its own.
 TOOLCHAIN = """#!/bin/sh
@@ -50,7 +50,7 @@ class Clone(unittest.TestCase):
         self.room = pathlib.Path(self.enterContext(tempfile.TemporaryDirectory()))
         self.top = self.room / "clone"
         shutil.copytree(tools.TOP / "tools" / "program", self.top / "tools" / "program")
-        for name in ("mme", "VERSION", "tools/versions.py"):
+        for name in ("mme", "VERSION", "tools/__init__.py", "tools/versions.py"):
             shutil.copy(tools.TOP / name, self.top / name)
         (self.top / "crates.txt").write_text(CRATES)
         (self.top / "HANDLES").write_text("Handles allowed: none.\n")
@@ -239,8 +239,8 @@ class Proving(Clone):
 
     def is_built(self):
         """Whether the libraries below the library for C stand as the gate left them, of this text."""
-        code = "import record; print(record.is_built())"
-        done = subprocess.run([sys.executable, "-B", "-c", code], cwd=self.top / "tools" / "program", env=self.environment(),
+        code = "from tools.program import record; print(record.is_built())"
+        done = subprocess.run([sys.executable, "-B", "-c", code], cwd=self.top, env=self.environment(),
                               capture_output=True, text=True, check=True, timeout=60)
         return done.stdout == "True\n"
 

@@ -1,4 +1,4 @@
-"""tools/runs.py and tools/s1ap.py: which event each answer of the rows is to. What is right comes from bench/phones.py, where
+"""tools/runs.py and tools/s1ap.py: which event each answer of the rows is to. What is right comes from reference/phones.py, where
 each step of a phone says what the MME owes for it, and from a program that plays a part of the MME's."""
 import contextlib
 import io
@@ -9,15 +9,10 @@ import sys
 import tempfile
 import unittest
 
-import tools
-
-sys.path.insert(0, str(tools.TOP / "bench"))
-S1AP = tools.module("tools/s1ap.py")
-RUNS = tools.module("tools/runs.py")
-PHONES = tools.module("bench/phones.py")
-BENCH_ROWS = tools.module("bench/rows.py")
-del sys.path[0]
-from fronting import segments as SEGMENTS
+from reference import phones as PHONES, rows as REFERENCE_ROWS
+from tests.tools import tools
+from tools import runs as RUNS, s1ap as S1AP
+from tools.fronting import segments as SEGMENTS
 
 
 def row(name):
@@ -110,8 +105,8 @@ class Matching(unittest.TestCase):
                 self.assertEqual(given(RUNS.matched(read, RUNS.read_answers(trace.answer_text().encode()))), trace.told())
 
     def test_rows_of_phones(self):
-        BENCH_ROWS.Trace = Told
-        for name, _, make in BENCH_ROWS.ROWS:
+        REFERENCE_ROWS.Trace = Told
+        for name, _, make in REFERENCE_ROWS.ROWS:
             with self.subTest(row=name):
                 trace = make()
                 read = RUNS.read_trace(trace.text().encode())

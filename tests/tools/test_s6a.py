@@ -7,21 +7,17 @@ import os
 import shutil
 import signal
 import subprocess
-import sys
 import threading
 import time
 import unittest
 
-import hss
-import tools
-from card import SYNCH_FAILURE, Card
-from hss import (AIR, CER, CLR, DEST_HOST, DEST_REALM, DPR, DSR, DWR, E, EXPERIMENTAL, FAILED, HOST, IDR, P, PUR, R, REALM,
-                 RESULT, RSR, S6A, SESSION, T, ULR, USER_NAME, VENDOR, Hss, Subscriber, avp, avps_of)
-from sourced import Running, vector
+from tests.tools import hss, tools
+from tests.tools.card import SYNCH_FAILURE, Card
+from tests.tools.hss import (AIR, CER, CLR, DEST_HOST, DEST_REALM, DPR, DSR, DWR, E, EXPERIMENTAL, FAILED, HOST, IDR, P, PUR, R,
+                             REALM, RESULT, RSR, S6A, SESSION, T, ULR, USER_NAME, VENDOR, Hss, Subscriber, avp, avps_of)
+from tests.tools.sourced import Running, vector
 
-sys.path.insert(0, str(tools.TOP / "tools"))
-COMMAND = importlib.import_module("diameter.command")
-del sys.path[0]
+COMMAND = importlib.import_module("tools.diameter.command")
 IMSI, OTHER, NOBODY = "001010000000001", "001010000000002", "001010000000009"
 MME = "mme1." + REALM
 WORDS = ("--host", MME, "--realm", REALM, "--plmn", "001", "01")

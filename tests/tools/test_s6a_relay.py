@@ -10,9 +10,7 @@ import sys
 import tempfile
 import unittest
 
-import kernel
-import relay_inside
-import tools
+from tests.tools import kernel, relay_inside, tools
 
 INSIDE = tools.TOP / "tests" / "tools" / "relay_inside.py"
 SECONDS = 200  # for all tests of a kind, which take under 20 on a machine of their own

@@ -9,9 +9,9 @@ import tempfile
 import time
 import unittest
 
-import tools
+from tests.tools import tools
+from tools.program import lines as LINES
 
-LINES = tools.module("tools/program/lines.py")
 TRACE = b"mme 001 01 8001 01 internet 1 1\nup 0\nfly 0 \x1b[2J\n"
 WHY = ["mme: line 3: no line of a trace begins with `fly`", "mme:   | fly 0 <1B>[2J", "mme:   | ^^^"]
 STATUS_LINE = "mme: line 3: fault 1"
@@ -21,7 +21,7 @@ class Script(unittest.TestCase):
     def setUp(self):
         self.room = pathlib.Path(self.enterContext(tempfile.TemporaryDirectory()))
         shutil.copytree(tools.TOP / "tools" / "program", self.room / "tools" / "program")
-        for name in ("mme", "VERSION", "tools/versions.py"):
+        for name in ("mme", "VERSION", "tools/__init__.py", "tools/versions.py"):
             shutil.copy(tools.TOP / name, self.room / name)
         (self.room / "crates.txt").write_text("")
         (self.room / "crates" / "mme" / "src").mkdir(parents=True)

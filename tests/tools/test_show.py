@@ -7,14 +7,13 @@ import re
 import subprocess
 import unittest
 
-import dissection
-import tools
-import causes
-from eps import messages, quick, render
+from reference import lte as LTE
+from tests.tools import dissection, tools
+from tools import causes
+from tools.eps import messages, quick, render
 
-S1AP = importlib.import_module("s1ap")
-RUNS = importlib.import_module("runs")
-LTE = tools.module("bench/lte.py")
+S1AP = importlib.import_module("tools.s1ap")
+RUNS = importlib.import_module("tools.runs")
 PROGRAM = tools.TOP / "crates" / "mme" / "out" / "mme"
 FILLED = 4  # of a shape, and bits turned
 FILES = [path for kind in ("*.trace", "*.answers") for path in sorted(tools.ROWS.glob(kind))]

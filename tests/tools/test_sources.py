@@ -14,13 +14,14 @@ import threading
 import time
 import unittest
 
-import tools
-from card import SYNCH_FAILURE, Card
-from power import Disk
-from sourced import Running, vector
-from test_vectors import LTE, test_sets
+from tests.tools import tools
+from tests.tools.card import SYNCH_FAILURE, Card
+from tests.tools.power import Disk
+from tests.tools.sourced import Running, vector
+from tests.tools.test_vectors import LTE, test_sets
 
-SERVING, STORE, ASKING, WORDS = (importlib.import_module("sourcing." + name) for name in ("serving", "store", "asking", "words"))
+SERVING, STORE, ASKING, WORDS = (
+    importlib.import_module("tools.sourcing." + name) for name in ("serving", "store", "asking", "words"))
 IMSI, OTHER, NOBODY = "001010000000001", "001010000000002", "001010000000009"
 SETS = list(test_sets())
 K, OPC = SETS[0]["k"], SETS[0]["opc"]

@@ -3,17 +3,11 @@ changed in the code or in the list."""
 import contextlib
 import io
 import pathlib
-import sys
 import tempfile
 import unittest
 from unittest import mock
 
-import tools
-
-sys.path.insert(0, str(tools.TOP / "tests" / "docs"))
-import surface_check
-
-del sys.path[0]
+from tests.docs import surface_check
 
 LIST = "tests/docs/surface.txt"
 LOW, ELEMENTS = "crates/low/src/line.rt", "crates/elements/src/word.rt"

@@ -13,10 +13,8 @@ import time
 import unittest
 import unittest.mock
 
-import tools
-
-sys.path.insert(0, str(tools.TOP / "tools" / "program"))
-import toolchain
+from tests.tools import tools
+from tools.program import toolchain
 
 SCRIPT = tools.TOP / "tools" / "program" / "toolchain.py"
 CRATES = "low:\nleft: low\nright: low\ntop: left right\nhighest: top left low\n"
@@ -30,22 +28,21 @@ print(any(" hg" in part for part in parts))
 # Starts that, as what proves is started, where a file says who gets huge pages.
 ASKED = """
 import os, pathlib, subprocess, sys
-sys.path.insert(0, %r)
-import toolchain
+from tools.program import toolchain
 toolchain.WHO_GETS_THEM = pathlib.Path(%r)
 subprocess.run([sys.executable, "-c", %r], check=True, env={**os.environ, **toolchain.asking_for_huge_pages()})
 """
 # Says what what it starts is given, where names of the module are others.
 GIVEN = """
 import os, pathlib, subprocess, sys, tempfile
-sys.path.insert(0, %r)
-import toolchain
+from tools.program import toolchain
 for name, value in %r.items():
     setattr(toolchain, name, type(getattr(toolchain, name))(value))
 toolchain.make_provers_quicker()
 folder = os.environ.get(toolchain.TEMPORARY, tempfile.gettempdir())
 print(os.environ[toolchain.PURGE_DELAY], folder, tempfile.gettempdir(), os.path.isdir(folder))
 """
+AT_TOP = {"PYTHONPATH": str(tools.TOP)}  # what finds the module
 LOOKS, BETWEEN_LOOKS = 100, 0.05  # for what goes a moment later, in seconds
 
 
@@ -210,8 +207,8 @@ class Command(unittest.TestCase):
         with tempfile.TemporaryDirectory() as room:
             told = pathlib.Path(room, "enabled")
             told.write_text(who)
-            script = ASKED % (str(SCRIPT.parent), str(told), MAPPED)
-            done = self.ran(sys.executable, "-B", "-c", script, env={**os.environ, "TMPDIR": room})
+            script = ASKED % (str(told), MAPPED)
+            done = self.ran(sys.executable, "-B", "-c", script, env={**os.environ, "TMPDIR": room, **AT_TOP})
             self.assertEqual(sorted(os.listdir(room)), ["enabled"])
         self.assertEqual((done.returncode, done.stderr), (0, ""))
         return done.stdout
@@ -224,9 +221,9 @@ class Command(unittest.TestCase):
     def given(self, **changed):
         """What a process has of a prover's environment, where these names of the module are others: what it keeps of freed memory, its
         temporary folder, and whether that is there; and whether the folder is gone with the process that made it."""
-        script = GIVEN % (str(SCRIPT.parent), {name: str(value) for name, value in changed.items()})
+        script = GIVEN % ({name: str(value) for name, value in changed.items()},)
         environment = {name: value for name, value in os.environ.items() if name not in (toolchain.PURGE_DELAY, toolchain.TEMPORARY)}
-        done = self.ran(sys.executable, "-B", "-c", script, env=environment)
+        done = self.ran(sys.executable, "-B", "-c", script, env={**environment, **AT_TOP})
         self.assertEqual((done.returncode, done.stderr), (0, ""))
         delay, folder, own, is_there = done.stdout.split()
         self.assertEqual((delay, is_there), (toolchain.NEVER, "True"))

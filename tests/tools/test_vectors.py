@@ -1,5 +1,5 @@
 """tools/vectors: AES by FIPS 197, HMAC by RFC 4231, Milenage by the six test sets of TS 35.207, KASME by the derivation
-written a second time in bench/lte.py."""
+written a second time in reference/lte.py."""
 import hashlib
 import hmac
 import importlib
@@ -10,11 +10,11 @@ import sys
 import tempfile
 import unittest
 
-import tools
+from reference import lte as LTE
+from tests.tools import tools
 
 VECTORS = tools.module("tools/vectors")
-CIPHERS, MILENAGE = (importlib.import_module(name) for name in ("eps.ciphers", "sourcing.milenage"))
-LTE = tools.module("bench/lte.py")
+CIPHERS, MILENAGE = (importlib.import_module("tools." + name) for name in ("eps.ciphers", "sourcing.milenage"))
 
 SET_FIELDS = "k rand sqn amf op opc f1 f1_star f2 f5 f3 f4 f5_star".split()
 SETS = """
@@ -218,8 +218,8 @@ class Lines(unittest.TestCase):
 
 class Library(unittest.TestCase):
     def test_sim(self):
-        """The SIM of soizkadur.standards takes its functions from tools/vectors: it answers a vector, refuses it a second time with
-        AUTS, and its home goes on after that."""
+        """The SIM of soizkadur.standards takes its functions from tools/sourcing: it answers a vector, refuses it a second time
+        with AUTS, and its home goes on after that."""
         program = """if True:
             from soizkadur.standards.sim import Sim
             sim = Sim(bytes.fromhex("%s"), bytes.fromhex("%s"), sqn=1 << 20)

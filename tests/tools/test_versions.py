@@ -4,7 +4,7 @@ import re
 import subprocess
 import unittest
 
-import tools
+from tests.tools import tools
 
 NUMBER = (tools.TOP / "VERSION").read_text().removesuffix("\n")
 

@@ -9,11 +9,11 @@ import unittest
 import urllib.request
 import xml.etree.ElementTree
 
-import tools
-from fronted import HEAD, IMSI, STAND_IN, Running
-from test_front_page import free_port
+from tests.tools import tools
+from tests.tools.fronted import HEAD, IMSI, STAND_IN, Running
+from tests.tools.test_front_page import free_port
+from tools import versions as VERSIONS
 
-VERSIONS = tools.module("tools/versions.py")
 # ESC, the control sequence introducer among the C1 controls, LF, CR and DEL (ISO/IEC 6429).
 HOSTILE = b"a\x1b[2J\x9b31m\nout e0 0 00\r\x7f"
 SHOWN = r"a\x1b[2J\x9b31m\nout e0 0 00\r\x7f"

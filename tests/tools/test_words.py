@@ -1,17 +1,13 @@
 """The words of tools/explain as the documents have them, and the answers to a station's mistakes as docs/STATIONS.md has them."""
 import importlib
 import re
-import sys
 import unittest
 
-import failures
-import tools
+from tests.tools import failures, tools
 
-sys.path.insert(0, str(tools.TOP / "tools"))
-RUNS = importlib.import_module("runs")
-WORLD = importlib.import_module("eps.world")
-WHY = importlib.import_module("eps.reasons").Why
-del sys.path[0]
+RUNS = importlib.import_module("tools.runs")
+WORLD = importlib.import_module("tools.eps.world")
+WHY = importlib.import_module("tools.eps.reasons").Why
 lte, phones = failures.lte, failures.phones
 
 DOCUMENTS = {name: (tools.TOP / "docs" / name).read_text(encoding="utf-8") for name in ("LAB.md", "STATIONS.md")}

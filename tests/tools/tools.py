@@ -12,13 +12,10 @@ ROWS = TOP / "tests" / "rows"
 
 
 def module(path):
-    """The Python file as a module, whatever its name's end."""
-    path = TOP / path
-    if str(path.parent) not in sys.path:  # (where its own modules stand)
-        sys.path.append(str(path.parent))
-    loader = importlib.machinery.SourceFileLoader(path.stem, str(path))
-    found = importlib.util.module_from_spec(importlib.util.spec_from_loader(path.stem, loader))
-    sys.modules[path.stem] = found
+    """A program that is written in Python, as a module: `tools/show` is `tools.show`."""
+    loader = importlib.machinery.SourceFileLoader(path.replace("/", "."), str(TOP / path))
+    found = importlib.util.module_from_spec(importlib.util.spec_from_loader(loader.name, loader))
+    sys.modules[loader.name] = found
     loader.exec_module(found)
     return found
 

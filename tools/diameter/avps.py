@@ -4,7 +4,7 @@ import enum
 import ipaddress
 import struct
 
-from diameter.results import Result
+from tools.diameter.results import Result
 
 IETF, VENDOR_3GPP = 0, 10415
 HAS_VENDOR, IS_MANDATORY = 0x80, 0x40  # the bits V and M

@@ -4,10 +4,10 @@ import ipaddress
 import random
 import time
 
-from diameter import avps
-from diameter.messages import IS_AGAIN, IS_ERROR, IS_PROXIABLE, IS_REQUEST, S6A, Header
-from diameter.peer import Node, Peer, Phase, identity, s6a_application
-from diameter.results import Result
+from tools.diameter import avps
+from tools.diameter.messages import IS_AGAIN, IS_ERROR, IS_PROXIABLE, IS_REQUEST, S6A, Header
+from tools.diameter.peer import Node, Peer, Phase, identity, s6a_application
+from tools.diameter.results import Result
 
 NO_STATE_MAINTAINED = 1  # of Auth-Session-State (RFC 6733 clause 8.11)
 # What another peer may do: the first one doesn't reach the HSS, or has too much to do (RFC 6733 clause 7.1.3).

@@ -4,12 +4,12 @@ import ipaddress
 import re
 import socket
 
-import versions
-from sourcing.saying import Voice
-from sourcing.words import digits_of
+from tools import versions
+from tools.sourcing.saying import Voice
+from tools.sourcing.words import digits_of
 
-from diameter.links import Link, SctpLink
-from diameter.source import Source
+from tools.diameter.links import Link, SctpLink
+from tools.diameter.source import Source
 
 PORT = 3868  # RFC 6733 clause 11.4
 MOST_PEERS = 4

@@ -5,7 +5,7 @@ import select
 import socket
 import struct
 
-from fronting import sctp
+from tools.fronting import sctp
 
 DIAMETER_PROTOCOL = 46  # the payload protocol identifier of Diameter in clear text (RFC 6733 clause 11.4)
 PIECE = 1 << 16  # octets of a read

@@ -3,7 +3,7 @@ import collections
 import enum
 import struct
 
-from diameter import avps
+from tools.diameter import avps
 
 VERSION, HEADER, LONGEST = 1, 20, 1 << 20  # octets; the longest message that is taken has many times those of an HSS
 BASE, S6A, RELAY = 0, 16777251, 0xFFFFFFFF  # applications

@@ -3,12 +3,12 @@ import collections
 import re
 import time
 
-from diameter import avps
-from diameter.client import NO_STATE_MAINTAINED
-from diameter.messages import BASE, S6A, Command
-from diameter.peer import identity, s6a_application
-from diameter.results import Experimental, Result
-from sourcing.asking import CANCEL, RESET, answer
+from tools.diameter import avps
+from tools.diameter.client import NO_STATE_MAINTAINED
+from tools.diameter.messages import BASE, S6A, Command
+from tools.diameter.peer import identity, s6a_application
+from tools.diameter.results import Experimental, Result
+from tools.sourcing.asking import CANCEL, RESET, answer
 
 OF_ALL = (avps.SESSION_ID, avps.AUTH_SESSION_STATE, avps.ORIGIN_HOST, avps.ORIGIN_REALM, avps.DESTINATION_HOST,
           avps.DESTINATION_REALM)

@@ -5,7 +5,7 @@ import queue
 import select
 import threading
 
-from sourcing.asking import write_all
+from tools.sourcing.asking import write_all
 
 MOST_WAITING = 1 << 20  # octets that wait for a reader, beyond which no more is asked
 

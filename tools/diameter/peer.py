@@ -4,10 +4,10 @@ import enum
 import random
 import time
 
-from diameter import avps, messages
-from diameter.avps import Malformed
-from diameter.messages import BASE, IS_ERROR, IS_PROXIABLE, IS_REQUEST, RELAY, S6A, Command, Header, Message
-from diameter.results import Result, is_of_protocol, is_success, name_of
+from tools.diameter import avps, messages
+from tools.diameter.avps import Malformed
+from tools.diameter.messages import BASE, IS_ERROR, IS_PROXIABLE, IS_REQUEST, RELAY, S6A, Command, Header, Message
+from tools.diameter.results import Result, is_of_protocol, is_success, name_of
 
 EXCHANGE_SECONDS = 5  # from the beginning of a connection to Capabilities-Exchange-Answer
 FIRST_REST, LONGEST_REST = 0.5, 30  # seconds until a connection is tried again: twice as long each time (RFC 6733 clause 2.1, Tc)

@@ -1,9 +1,9 @@
 """The procedures of S6a that an MME begins (TS 29.272 clause 5): what is asked, and what an answer means."""
-from diameter import avps
-from diameter.messages import Command
-from diameter.results import OF_NOBODY, Experimental, Result, is_success, name_of
-from sourcing.asking import LATER, REGISTERED, UNKNOWN, VECTORS, answer as answered, vector_lines
-from sourcing.milenage import BLOCK, SQN_OCTETS, Vector, is_for_eps, plmn_octets
+from tools.diameter import avps
+from tools.diameter.messages import Command
+from tools.diameter.results import OF_NOBODY, Experimental, Result, is_success, name_of
+from tools.sourcing.asking import LATER, REGISTERED, UNKNOWN, VECTORS, answer as answered, vector_lines
+from tools.sourcing.milenage import BLOCK, SQN_OCTETS, Vector, is_for_eps, plmn_octets
 
 MOST_AT_ONCE = 5  # vectors that an HSS is asked for in one request
 EUTRAN = 1004  # of RAT-Type (TS 29.212 clause 5.3.31)

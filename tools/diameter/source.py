@@ -8,14 +8,14 @@ import signal
 import socket
 import time
 
-from diameter.client import Client
-from diameter.orders import Orders
-from diameter.output import Output
-from diameter.procedures import NoSuccess, of_request
-from fronting.loop import Loop
-from sourcing import asking
-from sourcing.asking import GONE, LATER, REGISTERED, Refused
-from sourcing.milenage import plmn_octets
+from tools.diameter.client import Client
+from tools.diameter.orders import Orders
+from tools.diameter.output import Output
+from tools.diameter.procedures import NoSuccess, of_request
+from tools.fronting.loop import Loop
+from tools.sourcing import asking
+from tools.sourcing.asking import GONE, LATER, REGISTERED, Refused
+from tools.sourcing.milenage import plmn_octets
 
 INPUT, OUTPUT = 0, 1
 MOST_UNDER_WAY = 1000  # requests, beyond which no more are read

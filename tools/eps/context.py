@@ -1,8 +1,8 @@
 """A phone's security context: its keys and counts, and why a message isn't accepted under it (TS 24.301 clause 4.4)."""
 import dataclasses
 
-from eps import ciphers, macs, nas
-from eps.reasons import Why
+from tools.eps import ciphers, macs, nas
+from tools.eps.reasons import Why
 
 LAST_COUNT = (1 << 24) - 1
 SERVICE_BITS, MESSAGE_BITS = 5, 8  # of a count, that go with a message

@@ -1,7 +1,7 @@
 """The elements of S1AP that the profile has (TS 36.413 clauses 9.2 and 9.3): of each its name and its type."""
-import s1ap
-from eps import identities
-from eps.per import BitString, Bits, Choice, ElementsOf, Enumerated, ListOf, Number, Octets, OctetString, Optional, Sequence
+from tools import s1ap
+from tools.eps import identities
+from tools.eps.per import BitString, Bits, Choice, ElementsOf, Enumerated, ListOf, Number, Octets, OctetString, Optional, Sequence
 
 MME_ID, CAUSE, ENB_ID, SWITCHED_LIST, SETUP_LIST, NAS_PDU = 0, 2, 8, 22, 24, 26
 SECURITY_CONTEXT, PAGING_ID, TAI_LIST, DONE_LIST, ENB_IDENTITY, ENB_NAME, MME_NAME = 40, 43, 46, 51, 59, 60, 61

@@ -1,11 +1,11 @@
 """Frames of S1AP messages: what those have in common that are spelled alike, so that of each only what differs is read."""
 import functools
 
-from eps import holes, usual
-from eps.elements import BOTH_IDS, ELEMENTS, ENB_ID, MME_ID, NAS_PDU, SETUP_LIST, SOURCE_MME_ID
-from eps.per import CRITICALITIES
-from eps.shapes import of_octets
-from s1ap import SHORT
+from tools.eps import holes, usual
+from tools.eps.elements import BOTH_IDS, ELEMENTS, ENB_ID, MME_ID, NAS_PDU, SETUP_LIST, SOURCE_MME_ID
+from tools.eps.per import CRITICALITIES
+from tools.eps.shapes import of_octets
+from tools.s1ap import SHORT
 
 KEPT, LONGEST_KEPT = 1 << 10, 64  # values of an element that are kept, and the octets of the longest one
 FEW = 2  # octets of an element that has few values, where it isn't an id

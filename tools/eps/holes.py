@@ -1,7 +1,7 @@
 """Where the octets of an S1AP message may be any others and leave it as it is spelled: the holes of its shape (shapes.py)."""
-import s1ap
-from eps import elements
-from eps.shapes import Hole, of_octets
+from tools import s1ap
+from tools.eps import elements
+from tools.eps.shapes import Hole, of_octets
 
 # Bits of elements with a number of octets: the first one and how many. They are of areas, cells, identities and keys (TS 36.413
 # clauses 9.2.1 and 9.2.3).

@@ -2,7 +2,7 @@
 import functools
 import ipaddress
 
-import s1ap
+from tools import s1ap
 
 FILLER = "f"  # stands in the place of a digit that isn't there
 

@@ -6,7 +6,7 @@ so each step of AES-128 (FIPS 197) is a few operations on long numbers, whatever
 import collections
 import functools
 
-from eps.ciphers import BLOCK, ROUNDS, SBOX, SHIFTS, doubled, eia2_text, nas_integrity
+from tools.eps.ciphers import BLOCK, ROUNDS, SBOX, SHIFTS, doubled, eia2_text, nas_integrity
 
 MOST_CLAIMS = 4096  # that are kept before they are looked at
 MAC_OCTETS = 4

@@ -6,12 +6,12 @@ import dataclasses
 import enum
 import functools
 
-import s1ap
-from eps.elements import ELEMENTS, ENB_ID, MME_ID, NAS_PDU, SETUP_LIST, SOURCE_MME_ID
-from eps.frames import Frame, without_nas
-from eps.per import Number, Reader, Unreadable, read_criticality, skip_additions
-from eps.shapes import Shape, Shapes
-from eps.usual import INSIDE
+from tools import s1ap
+from tools.eps.elements import ELEMENTS, ENB_ID, MME_ID, NAS_PDU, SETUP_LIST, SOURCE_MME_ID
+from tools.eps.frames import Frame, without_nas
+from tools.eps.per import Number, Reader, Unreadable, read_criticality, skip_additions
+from tools.eps.shapes import Shape, Shapes
+from tools.eps.usual import INSIDE
 
 OUTCOMES = ("initiating", "successful", "unsuccessful")
 REJECT, IGNORE, NOTIFY = "reject", "ignore", "notify"

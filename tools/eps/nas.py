@@ -6,10 +6,10 @@ import dataclasses
 import enum
 import functools
 
-import s1ap
-from eps import nas_elements as forms
-from eps.nas_elements import Beyond, Refused, named
-from eps.shapes import NAS_HEAD, Shape, Shapes, of_octets
+from tools import s1ap
+from tools.eps import nas_elements as forms
+from tools.eps.nas_elements import Beyond, Refused, named
+from tools.eps.shapes import NAS_HEAD, Shape, Shapes, of_octets
 
 KEPT = 1 << 8  # messages that aren't decoded again
 UP, DOWN = 0, 1  # directions, as a MAC takes them (TS 33.401 annex B.2.1)

@@ -1,9 +1,9 @@
 """Elements of EPS NAS (TS 24.301 clause 9.9): each reads a value from the octets of its element, or refuses them."""
 import functools
 
-from causes import emm_cause, esm_cause
-from eps import identities
-from eps.per import Enumerator
+from tools.causes import emm_cause, esm_cause
+from tools.eps import identities
+from tools.eps.per import Enumerator
 
 KEPT = 1 << 8  # values of an element that are kept, where phones mostly have the same
 IMSI_OCTETS, GUTI_OCTETS = 8, 11  # with the first one (clause 9.9.3.12)

@@ -4,8 +4,8 @@ A value is a number, a text, octets, a list, or a dictionary of names and values
 """
 import dataclasses
 
-import s1ap
-from s1ap import Unreadable
+from tools import s1ap
+from tools.s1ap import Unreadable
 
 
 class Reader(s1ap.Reader):

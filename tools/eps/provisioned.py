@@ -2,8 +2,8 @@
 import dataclasses
 import functools
 
-import runs
-from eps import identities
+from tools import runs
+from tools.eps import identities
 
 IDS_OF_A_SLOT = 1 << 16  # MME UE S1AP IDs of a slot, and M-TMSIs (docs/PROFILE.md, Identities)
 FIRST_STRANGER = 1 << 31

@@ -6,10 +6,10 @@ compares each line with that of the whole decoder.
 """
 import re
 
-import s1ap
-from eps import holes, messages, nas, render
-from eps.nas_elements import IMSI_OCTETS
-from eps.shapes import Hole, Shape, Shapes, of_octets
+from tools import s1ap
+from tools.eps import holes, messages, nas, render
+from tools.eps.nas_elements import IMSI_OCTETS
+from tools.eps.shapes import Hole, Shape, Shapes, of_octets
 
 KNOWN = {kind: frozenset(form.ids()) for kind, form in messages.FORMS.items()}
 

@@ -1,9 +1,9 @@
 """A message as a tree of text, as one line, and as an object for JSON. The names are those of the standards; docs/MESSAGES.md has
 the keys of the object.
 """
-from eps import messages, nas
-from eps.elements import BOTH_IDS, CAUSE, ENB_ID, NAS_PDU
-from eps.per import Enumerator
+from tools.eps import messages, nas
+from tools.eps.elements import BOTH_IDS, CAUSE, ENB_ID, NAS_PDU
+from tools.eps.per import Enumerator
 
 INDENT = "  "
 

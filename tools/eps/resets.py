@@ -2,9 +2,8 @@
 om-intervention`."""
 import re
 
-import runs
-import s1ap
-from eps.writing import fewest, sized
+from tools import runs, s1ap
+from tools.eps.writing import fewest, sized
 
 MOST_ITEMS = 256  # of a list (TS 36.413 clause 9.1.8.1)
 ITEM = re.compile("mme=([0-9]{1,10})(?:,enb=([0-9]{1,8}))?|enb=([0-9]{1,8})")

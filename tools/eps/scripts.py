@@ -1,11 +1,10 @@
 """Why `mme sim` skipped lines of a script (docs/SCRIPTS.md): what stations and phones have is read from what it printed."""
 import dataclasses
 
-import runs
-import s1ap
-from eps import messages, nas, render
-from eps.elements import ENB_ID
-from eps.reasons import Why
+from tools import runs, s1ap
+from tools.eps import messages, nas, render
+from tools.eps.elements import ENB_ID
+from tools.eps.reasons import Why
 
 SKIPPED = "## skipped"
 SILENT = ("station", "deaf")  # words that print nothing where they are done

@@ -5,12 +5,11 @@ import dataclasses
 import enum
 import typing
 
-import progress
-import runs
-from eps import macs, messages, render
-from eps.elements import CAUSE
-from eps.telling import BriefNow, Expected, Now
-from eps.world import World
+from tools import progress, runs
+from tools.eps import macs, messages, render
+from tools.eps.elements import CAUSE
+from tools.eps.telling import BriefNow, Expected, Now
+from tools.eps.world import World
 
 MOST_TOLD = 50000  # events of a run that is told where that isn't asked for
 

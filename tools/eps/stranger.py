@@ -1,13 +1,13 @@
 """A stranger: who came to a station under an eNB UE S1AP ID and named no subscriber (docs/TABLE.md, "Stranger")."""
 import dataclasses
 
-import s1ap
-from eps import nas, timers
-from eps.elements import CAUSE, S_TMSI, TAI
-from eps.nas_elements import emm, named
-from eps.provisioned import stranger_id
-from eps.reasons import Why
-from eps.telling import NORMAL_RELEASE, RADIO_UNSPECIFIED, UNKNOWN_ID, UNKNOWN_PAIR, UNSPECIFIED, Place, Said
+from tools import s1ap
+from tools.eps import nas, timers
+from tools.eps.elements import CAUSE, S_TMSI, TAI
+from tools.eps.nas_elements import emm, named
+from tools.eps.provisioned import stranger_id
+from tools.eps.reasons import Why
+from tools.eps.telling import NORMAL_RELEASE, RADIO_UNSPECIFIED, UNKNOWN_ID, UNKNOWN_PAIR, UNSPECIFIED, Place, Said
 
 REJECTS = {nas.ATTACH_REQUEST: nas.ATTACH_REJECT, nas.TAU_REQUEST: nas.TAU_REJECT, nas.SERVICE_REQUEST: nas.SERVICE_REJECT}
 NO_SUBSCRIBER, NOT_DERIVED, INVALID = 8, 9, 96

@@ -5,17 +5,18 @@ Each event gives what the MME owes for it, and says what the event was and why i
 import enum
 import functools
 
-import s1ap
-from eps import context as security
-from eps import identities, nas, timers
-from eps.context import Context, Refusal
-from eps.elements import AMBR, CAPABILITIES, CAUSE, CN_DOMAIN, PAGING_ID, PAGING_INDEX, SECURITY_CONTEXT, SECURITY_KEY
-from eps.elements import SETUP_LIST, TAI, TAI_LIST
-from eps.nas_elements import emm, esm, named, timer
-from eps.provisioned import FIRST_STRANGER, IDS_OF_A_SLOT, id_of_slot
-from eps.reasons import RESET, Why
-from eps.telling import DETACHED, FAILED, NORMAL_RELEASE, NOT_COMPATIBLE, RADIO_UNSPECIFIED, UNKNOWN_ID, UNKNOWN_PAIR, UNSPECIFIED
-from eps.telling import Place, Said
+from tools import s1ap
+from tools.eps import context as security
+from tools.eps import identities, nas, timers
+from tools.eps.context import Context, Refusal
+from tools.eps.elements import AMBR, CAPABILITIES, CAUSE, CN_DOMAIN, PAGING_ID, PAGING_INDEX, SECURITY_CONTEXT, SECURITY_KEY
+from tools.eps.elements import SETUP_LIST, TAI, TAI_LIST
+from tools.eps.nas_elements import emm, esm, named, timer
+from tools.eps.provisioned import FIRST_STRANGER, IDS_OF_A_SLOT, id_of_slot
+from tools.eps.reasons import RESET, Why
+from tools.eps.telling import (DETACHED, FAILED, NORMAL_RELEASE, NOT_COMPATIBLE, RADIO_UNSPECIFIED, UNKNOWN_ID, UNKNOWN_PAIR,
+                               UNSPECIFIED)
+from tools.eps.telling import Place, Said
 
 BEARER = 5
 PRIORITY = {"priority level": 15, "pre-emption capability": "shall not trigger pre-emption",

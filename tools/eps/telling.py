@@ -1,10 +1,10 @@
 """What the model says of a run: of each event what it was and why it did not do more, and the messages that answer it."""
 import dataclasses
 
-import s1ap
-from eps import macs, messages, nas, writing
-from eps.elements import BOTH_IDS, CAUSE, ENB_ID, MME_ID
-from eps.reasons import FORGERIES, REPLAYS, Mark, Why
+from tools import s1ap
+from tools.eps import macs, messages, nas, writing
+from tools.eps.elements import BOTH_IDS, CAUSE, ENB_ID, MME_ID
+from tools.eps.reasons import FORGERIES, REPLAYS, Mark, Why
 
 
 @dataclasses.dataclass(slots=True)

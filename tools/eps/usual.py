@@ -3,10 +3,10 @@
 Each of `READERS`, and `bearer`, answers what the element's type reads of octets that have the element's holes (holes.py).
 tests/tools compares them.
 """
-import s1ap
-from eps import identities
-from eps.elements import DONE_LIST, ELEMENTS, SECURITY_KEY, SETUP_LIST, SWITCHED_LIST
-from eps.per import Items
+from tools import s1ap
+from tools.eps import identities
+from tools.eps.elements import DONE_LIST, ELEMENTS, SECURITY_KEY, SETUP_LIST, SWITCHED_LIST
+from tools.eps.per import Items
 
 ADDRESS, TUNNEL, INSIDE = "transport layer address", "GTP-TEID", "NAS-PDU"
 ADDRESS_AT = 7  # where the address stands in a list of one bearer

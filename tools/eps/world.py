@@ -5,18 +5,17 @@ It knows docs/TABLE.md and docs/PROFILE.md and not the MME. For each event it sa
 import collections
 import enum
 
-import runs
-import s1ap
-from eps import macs, messages, nas
-from eps.context import Spent
-from eps.elements import CAPACITY, CAUSE, GUMMEIS, RESET_LIST, RESET_TYPE, S_TMSI, SUPPORTED_TAS
-from eps.messages import Fault, Sender
-from eps.provisioned import FIRST_STRANGER, IDS_OF_A_SLOT, provisioned, stranger_of, take_line
-from eps.reasons import RESET, SCTP, SET_UP, Why
-from eps.stranger import Stranger, closed
-from eps.subscriber import Subscriber
-from eps.telling import NOT_COMPATIBLE, Now, cause
-from eps.timers import Alarms
+from tools import runs, s1ap
+from tools.eps import macs, messages, nas
+from tools.eps.context import Spent
+from tools.eps.elements import CAPACITY, CAUSE, GUMMEIS, RESET_LIST, RESET_TYPE, S_TMSI, SUPPORTED_TAS
+from tools.eps.messages import Fault, Sender
+from tools.eps.provisioned import FIRST_STRANGER, IDS_OF_A_SLOT, provisioned, stranger_of, take_line
+from tools.eps.reasons import RESET, SCTP, SET_UP, Why
+from tools.eps.stranger import Stranger, closed
+from tools.eps.subscriber import Subscriber
+from tools.eps.telling import NOT_COMPATIBLE, Now, cause
+from tools.eps.timers import Alarms
 
 NOT_UP, ALREADY_UP, UNKNOWN_IMSI = 1, 2, 5  # what `refused` says (README.md, "A trace")
 # How octets that are no message are answered (TS 36.413 clause 10.3.4.1 for what a procedure's criticality asks for).

@@ -6,10 +6,10 @@ read, and has it.
 import functools
 import socket
 
-import s1ap
-from eps import holes, identities, nas
-from eps.elements import AMBR, BOTH_IDS, CAPABILITIES, CAUSE, ENB_ID, MME_ID, SECURITY_KEY, SETUP_LIST
-from eps.usual import ADDRESS, OF_SETUP, TUNNEL
+from tools import s1ap
+from tools.eps import holes, identities, nas
+from tools.eps.elements import AMBR, BOTH_IDS, CAPABILITIES, CAUSE, ENB_ID, MME_ID, SECURITY_KEY, SETUP_LIST
+from tools.eps.usual import ADDRESS, OF_SETUP, TUNNEL
 
 KEPT, KEPT_IDS = 1 << 5, 1 << 12  # values of one kind that are kept, and ids
 MAC_OCTETS = 4

@@ -3,7 +3,7 @@ where the one before was a while ago."""
 import collections
 import time
 
-from fronting import limits
+from tools.fronting import limits
 
 
 class Aside:

@@ -5,8 +5,7 @@ that stands there. A RESET of a part means those that have each id which an item
 UE S1AP ID under which the station never began one means nobody, and a message with such an id is nobody's. What isn't known for
 sure may be somebody's.
 """
-import runs
-import s1ap
+from tools import runs, s1ap
 
 RESETS, ERRORS = bytes([s1ap.RESET]), bytes([s1ap.ERROR])  # the second octet of a message is its procedure
 BEGIN_ONE = bytes([s1ap.INITIAL_UE]), bytes([s1ap.PATH_SWITCH])

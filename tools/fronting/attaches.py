@@ -6,9 +6,9 @@ for after it, together. A phone that is registered then has completed the attach
 """
 import collections
 
-import s1ap
+from tools import s1ap
 
-from fronting.meters import UPLINK
+from tools.fronting.meters import UPLINK
 
 ACCEPT, COMPLETE = (bytes([s1ap.EMM, kind]) for kind in (0x42, s1ap.ATTACH_COMPLETE))
 REGISTERED = "REGISTERED "  # how the states of such a phone begin

@@ -10,11 +10,11 @@ is asked for the phone's states.
 """
 import collections
 
-import s1ap
-from eps import messages
-from eps.elements import DONE_LIST, ENB_ID, RESET_LIST, SWITCHED_LIST
+from tools import s1ap
+from tools.eps import messages
+from tools.eps.elements import DONE_LIST, ENB_ID, RESET_LIST, SWITCHED_LIST
 
-from fronting.meters import CONTEXT_REQUEST, DOWNLINK, RESET_ACKNOWLEDGE, SETUP_RESPONSE
+from tools.fronting.meters import CONTEXT_REQUEST, DOWNLINK, RESET_ACKNOWLEDGE, SETUP_RESPONSE
 
 DEFAULT_BEARER = 5  # the E-RAB ID of a phone's one bearer
 CONTEXT_RESPONSE = bytes([s1ap.SUCCESSFUL << 5, s1ap.CONTEXT_SETUP])

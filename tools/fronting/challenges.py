@@ -1,5 +1,5 @@
 """Which vector of a phone is used: its challenge has the vector's RAND."""
-import s1ap
+from tools import s1ap
 
 AUTHENTICATION_REQUEST = bytes([s1ap.EMM, 0x52])  # as it begins, sent plain (TS 24.301 clause 8.2.7)
 AUTHENTICATION_REQUEST_DIGITS = AUTHENTICATION_REQUEST.hex().encode()

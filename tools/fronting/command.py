@@ -9,21 +9,20 @@ import socket
 import sys
 import time
 
-import runs
-import versions
+from tools import runs, versions
 
-from fronting import limits
-from fronting.exchange import END, GO_ON, REFUSE
-from fronting.faults import WRONG, told
-from fronting.front import Front
-from fronting.keys import NO, YES, Filling, read_vectors
-from fronting.listening import ControlSocket, listener_of, page_listener_of
-from fronting.locking import Lock
-from fronting.page import Page
-from fronting.provisioning import read_head
-from fronting.saying import Voice
-from fronting.segments import whole_series
-from fronting.used import LOG_END, UsedVectors
+from tools.fronting import limits
+from tools.fronting.exchange import END, GO_ON, REFUSE
+from tools.fronting.faults import WRONG, told
+from tools.fronting.front import Front
+from tools.fronting.keys import NO, YES, Filling, read_vectors
+from tools.fronting.listening import ControlSocket, listener_of, page_listener_of
+from tools.fronting.locking import Lock
+from tools.fronting.page import Page
+from tools.fronting.provisioning import read_head
+from tools.fronting.saying import Voice
+from tools.fronting.segments import whole_series
+from tools.fronting.used import LOG_END, UsedVectors
 
 S1AP_PORT = 36412  # TS 36.412 clause 7
 OF_PHONE, OF_FILE = ("data", "cancel", "show", "tunnel"), ("give",)

@@ -2,10 +2,10 @@
 import json
 import weakref
 
-import runs
+from tools import runs
 
-from fronting import limits, status
-from fronting.guests import Door
+from tools.fronting import limits, status
+from tools.fronting.guests import Door
 
 WORDS = {"data": 1, "cancel": 1, "show": 1, "give": 1, "stations": 0, "phones": 0, "counters": 0, "health": 0, "bearers": 0,
          "tunnel": 1, "release": 3}

@@ -7,14 +7,14 @@ import re
 import select
 import time
 
-import runs
+from tools import runs
 
-from fronting import bearers, limits
-from fronting.associations import BEGIN_ONE, ERRORS, RESETS, is_silent
-from fronting.faults import told
-from fronting.meters import SETUP_REQUEST, UPLINK
-from fronting.pace import Pace
-from fronting.stations import Station, heard, heard_plain
+from tools.fronting import bearers, limits
+from tools.fronting.associations import BEGIN_ONE, ERRORS, RESETS, is_silent
+from tools.fronting.faults import told
+from tools.fronting.meters import SETUP_REQUEST, UPLINK
+from tools.fronting.pace import Pace
+from tools.fronting.stations import Station, heard, heard_plain
 
 EVENTS = select.EPOLLIN | select.EPOLLOUT | select.EPOLLRDHUP | select.EPOLLET
 ENDING = select.EPOLLRDHUP | select.EPOLLHUP | select.EPOLLERR

@@ -13,15 +13,15 @@ import contextlib
 import functools
 import time
 
-import runs
+from tools import runs
 
-from fronting import bearers, limits
-from fronting.challenges import AUTHENTICATION_REQUEST_DIGITS, challenged
-from fronting.faults import BABBLES, Ended, Failed, LOG_FAILS, SILENT, told
-from fronting.journal import Batch
-from fronting.meters import CONTEXT_REQUEST, DOWNLINK, ERROR_INDICATION, RESET_ACKNOWLEDGE, SETUP_RESPONSE
-from fronting.mme import MARK_ANSWER
-from fronting.used import entry_of
+from tools.fronting import bearers, limits
+from tools.fronting.challenges import AUTHENTICATION_REQUEST_DIGITS, challenged
+from tools.fronting.faults import BABBLES, Ended, Failed, LOG_FAILS, SILENT, told
+from tools.fronting.journal import Batch
+from tools.fronting.meters import CONTEXT_REQUEST, DOWNLINK, ERROR_INDICATION, RESET_ACKNOWLEDGE, SETUP_RESPONSE
+from tools.fronting.mme import MARK_ANSWER
+from tools.fronting.used import entry_of
 
 OUT, PHONE_OWNER, OWNERS = b"out ", ord("s"), b"esx"
 OUT_OF_PHONE = OUT + b"s"

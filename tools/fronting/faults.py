@@ -1,5 +1,5 @@
 """Why a connection, the MME or the front ends, and with which status."""
-import runs
+from tools import runs
 
 # What `run` ends with, beside 0 and the MME's own status: wrong words or files, which stay wrong; and what may go by itself, by
 # the names of sysexits.h: EX_SOFTWARE, EX_IOERR, EX_TEMPFAIL and EX_PROTOCOL.

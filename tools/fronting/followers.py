@@ -9,8 +9,8 @@ kept. It is told piece by piece, beside the stations' messages, and nobody waits
     now                              what stands was told
     end                              the front ends in order, and no station is connected any more
 """
-from fronting import limits
-from fronting.bearers import Bearers, release_request
+from tools.fronting import limits
+from tools.fronting.bearers import Bearers, release_request
 
 PIECE = 500  # subscribers that are told of at a time
 REST = 0.01  # seconds until more is told to one that has much to read still

@@ -6,30 +6,30 @@ import select
 import signal
 import time
 
-from fronting import limits
-from fronting.aside import Aside
-from fronting.attaches import Attaches
-from fronting.census import Census
-from fronting.control import Control
-from fronting.crowd import Crowd
-from fronting.exchange import Exchange
-from fronting.faults import BABBLES, LOG_FAILS, SILENT, WRONG, Ended, Failed, told
-from fronting.followers import Followers
-from fronting.giving import Giving
-from fronting.journal import Journal
-from fronting.keys import YES, Missing, form_of
-from fronting.loop import Loop
-from fronting.meters import Meters
-from fronting.mme import LINE_IS_WRONG, LibraryMme, PipedMme, library
-from fronting.notify import Manager
-from fronting.resuming import NoResume, OF_PHONE, Standing, head_facts, make_way, note_stations, parts_of, perhaps_used
-from fronting.soundness import Soundness
-from fronting.stock import Stock
-from fronting.syncing import LOST, Syncer, why_unsure
-from fronting.teller import Teller
-from fronting.used import vector_of
+from tools.fronting import limits
+from tools.fronting.aside import Aside
+from tools.fronting.attaches import Attaches
+from tools.fronting.census import Census
+from tools.fronting.control import Control
+from tools.fronting.crowd import Crowd
+from tools.fronting.exchange import Exchange
+from tools.fronting.faults import BABBLES, LOG_FAILS, SILENT, WRONG, Ended, Failed, told
+from tools.fronting.followers import Followers
+from tools.fronting.giving import Giving
+from tools.fronting.journal import Journal
+from tools.fronting.keys import YES, Missing, form_of
+from tools.fronting.loop import Loop
+from tools.fronting.meters import Meters
+from tools.fronting.mme import LINE_IS_WRONG, LibraryMme, PipedMme, library
+from tools.fronting.notify import Manager
+from tools.fronting.resuming import NoResume, OF_PHONE, Standing, head_facts, make_way, note_stations, parts_of, perhaps_used
+from tools.fronting.soundness import Soundness
+from tools.fronting.stock import Stock
+from tools.fronting.syncing import LOST, Syncer, why_unsure
+from tools.fronting.teller import Teller
+from tools.fronting.used import vector_of
 
-import runs
+from tools import runs
 
 CARE_SECONDS = 1.0  # between two looks at what takes too long
 UNCOLLECTED = 50000  # objects after which unused ones are looked for; cycles of them are few

@@ -9,13 +9,12 @@ in the log below a comment that says so: from there on the log answers what is s
 import collections
 import os
 
-import runs
-import s1ap
+from tools import runs, s1ap
 
-from fronting import limits
-from fronting.challenges import challenged
-from fronting.mme import MARK_ANSWER, nothing
-from fronting.segments import NUMBERED, name_of
+from tools.fronting import limits
+from tools.fronting.challenges import challenged
+from tools.fronting.mme import MARK_ANSWER, nothing
+from tools.fronting.segments import NUMBERED, name_of
 
 MARK = MARK_ANSWER + b"\n"
 PIECE = 1 << 17  # octets of the log that are given at once

@@ -4,8 +4,8 @@ import contextlib
 import select
 import time
 
-from fronting import limits
-from fronting.pace import Pace
+from tools.fronting import limits
+from tools.fronting.pace import Pace
 
 ENDING = select.EPOLLRDHUP | select.EPOLLHUP | select.EPOLLERR
 REST = 0.02  # seconds until a door that too many came to opens again, and until more is read of a line that isn't whole

@@ -6,7 +6,7 @@ messages that stand in them. The machines take them plain alone.
 """
 import re
 
-import s1ap
+from tools import s1ap
 
 UPLINK = bytes([s1ap.INITIATING << 5, s1ap.UPLINK_NAS])  # how an UPLINK NAS TRANSPORT begins
 TYPES = bytes([s1ap.AUTHENTICATION_RESPONSE, s1ap.AUTHENTICATION_FAILURE, s1ap.IDENTITY_RESPONSE])

@@ -4,10 +4,9 @@ import collections
 import dataclasses
 import itertools
 
-import runs
-import s1ap
+from tools import runs, s1ap
 
-from fronting.meters import PAGING, RECENT
+from tools.fronting.meters import PAGING, RECENT
 
 PIECE = 15  # messages that are read at once
 STRANGER = "a stranger"

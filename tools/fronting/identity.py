@@ -1,8 +1,8 @@
 """What a station says of itself in S1 SETUP REQUEST (TS 36.413 clause 9.1.8.4): its eNB ID, name and tracking area codes."""
 import typing
 
-from eps import messages
-from eps.elements import ENB_IDENTITY, ENB_NAME, SUPPORTED_TAS
+from tools.eps import messages
+from tools.eps.elements import ENB_IDENTITY, ENB_NAME, SUPPORTED_TAS
 
 MOST_TACS = 8  # that are shown
 DIGITS = {"macro eNB ID": 5, "home eNB ID": 7}  # of an eNB ID in hex (clause 9.2.1.37)

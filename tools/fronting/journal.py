@@ -18,13 +18,13 @@ import os
 import re
 import time
 
-import runs
+from tools import runs
 
-from fronting import limits
-from fronting.faults import Failed, LOG_FAILS
-from fronting.keys import Whole
-from fronting.segments import Series
-from fronting.syncing import folder_of, forget_unsynced, note_unsynced, sync_path
+from tools.fronting import limits
+from tools.fronting.faults import Failed, LOG_FAILS
+from tools.fronting.keys import Whole
+from tools.fronting.segments import Series
+from tools.fronting.syncing import folder_of, forget_unsynced, note_unsynced, sync_path
 
 UNTIL = re.compile(rb"# settled until segment (\d+), octet (\d+)\n")
 SETTLED_UNTIL = b"# settled until segment %d, octet %d\n"

@@ -12,10 +12,10 @@ subscribers has as comments isn't there.
 """
 import re
 
-import runs
+from tools import runs
 
-from fronting.provisioning import Head
-from fronting.segments import NUMBERED_LINE
+from tools.fronting.provisioning import Head
+from tools.fronting.segments import NUMBERED_LINE
 
 YES, NO = "yes", "no"  # whether a log keeps keys
 PUT_BACK = re.compile(re.escape(runs.LEFT_OUT) + r"(\d+): XRES of (\d+ [0-9a-f]+ [0-9a-f]+)")

@@ -5,8 +5,8 @@ import datetime
 import itertools
 import textwrap
 
-from fronting.history import STRANGER
-from fronting.markup import phone, shown
+from tools.fronting.history import STRANGER
+from tools.fronting.markup import phone, shown
 
 MOST_LANES, MOST_ROWS, MOST_OF_EVENT = 6, 60, 3
 # Sizes: between stations, to the MME, of a row, of a reason's line, of the edges and of an arrow's head.

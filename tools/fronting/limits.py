@@ -1,7 +1,7 @@
 """How much of anything the front takes, and how long it waits."""
 import os
 
-import runs
+from tools import runs
 
 # By TCP: seconds of rest until a connection is probed, between two probes, and until one that answers nothing is over.
 PROBE_AFTER, PROBE_APART, VANISHED = 5, 5, 20

@@ -3,8 +3,8 @@ import collections
 import socket
 import time
 
-from fronting import limits, sctp
-from fronting.faults import told
+from tools.fronting import limits, sctp
+from tools.fronting.faults import told
 
 ENDED, CUT = "it ended the connection", "it ended within a message"
 

@@ -4,11 +4,11 @@ import os
 import socket
 import stat
 
-import runs
+from tools import runs
 
-from fronting import limits, sctp
-from fronting.faults import NOT_YET, WRONG, Failed, told
-from fronting.links import SctpLink, TcpLink
+from tools.fronting import limits, sctp
+from tools.fronting.faults import NOT_YET, WRONG, Failed, told
+from tools.fronting.links import SctpLink, TcpLink
 
 # What may be otherwise a little later: an address that an interface is to have, a port that another one lets go.
 PASSING = {errno.EADDRINUSE, errno.EADDRNOTAVAIL, errno.ENETDOWN, errno.ENETUNREACH, errno.ENOBUFS, errno.ENOMEM, errno.EMFILE,

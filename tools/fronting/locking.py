@@ -2,7 +2,7 @@
 import fcntl
 import os
 
-from fronting.faults import NOT_YET, WRONG, Failed, told
+from tools.fronting.faults import NOT_YET, WRONG, Failed, told
 
 END = ".lock"  # after a log's name
 DIGITS = 20  # octets that a process's number has at the most, with its line's end

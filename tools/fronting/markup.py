@@ -1,7 +1,7 @@
 """Texts, links and tables in HTML."""
 import html
 
-import versions
+from tools import versions
 
 LONG = 40  # letters of a cell that is more than a line where there is no room
 

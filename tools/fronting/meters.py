@@ -3,7 +3,7 @@ import bisect
 import collections
 import time
 
-import s1ap
+from tools import s1ap
 
 ERROR_INDICATION, SETUP_RESPONSE = bytes([0, s1ap.ERROR]), bytes([s1ap.SUCCESSFUL << 5, s1ap.SETUP])
 SETUP_REQUEST, PAGING = bytes([0, s1ap.SETUP]), bytes([0, s1ap.PAGING])

@@ -1,10 +1,10 @@
 """The metrics in Prometheus' text form (version 0.0.4)."""
 import collections
 
-import versions
+from tools import versions
 
-from fronting import status
-from fronting.meters import BOUNDS, OTHER, name_of
+from tools.fronting import status
+from tools.fronting.meters import BOUNDS, OTHER, name_of
 
 
 class Text:

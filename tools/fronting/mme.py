@@ -7,18 +7,16 @@ import pathlib
 import select
 import signal
 import subprocess
-import sys
 import time
 
-import runs
+from tools import runs
 
-from fronting import limits
-from fronting.faults import Failed, WRONG, told
+from tools.fronting import limits
+from tools.fronting.faults import Failed, WRONG, told
 
 PIPE_OCTETS = 1 << 20
 MARK_ANSWER = b"refused %d" % runs.UNKNOWN_IMSI
 TOP = pathlib.Path(__file__).resolve().parents[2]
-PACKAGE = TOP / "python"  # where a clone has the package soizkadur
 # Why there is no library: in a clone, and in a package.
 NOT_BUILT = "there is no library, which `./mme --library` builds (docs/LIBRARY.md)"
 NOT_PACKED = ("there is no library: this package was made without it; one with it is made in a clone: ./mme --library, then "
@@ -173,9 +171,7 @@ class PipedMme(Mme):
 
 
 def library():
-    """The package soizkadur, of this clone or an installed one, with its shared object."""
-    if str(PACKAGE) not in sys.path:
-        sys.path.append(str(PACKAGE))
+    """The package soizkadur, of this clone or an installed one (tools/front has both on its path), with its shared object."""
     try:
         import soizkadur
         soizkadur.version()

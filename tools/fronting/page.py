@@ -8,14 +8,14 @@ import ipaddress
 import time
 import typing
 
-import versions
+from tools import versions
 
-from fronting import ladder, limits, metrics, status
-from fronting.guests import Door
-from fronting.history import History
-from fronting.keys import YES
-from fronting.markup import linked, marked, phone, shown, table
-from fronting.meters import RECENT
+from tools.fronting import ladder, limits, metrics, status
+from tools.fronting.guests import Door
+from tools.fronting.history import History
+from tools.fronting.keys import YES
+from tools.fronting.markup import linked, marked, phone, shown, table
+from tools.fronting.meters import RECENT
 
 MINUTES = 5  # that the chart goes back
 MOST_PHONES = 100  # that the page lists

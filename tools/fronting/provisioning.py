@@ -1,9 +1,9 @@
 """Who is provisioned: the lines `mme`, `sub` and `vec` of a trace, and what may be added to them while the front runs."""
 import ipaddress
 
-import runs
+from tools import runs
 
-from fronting.faults import Failed, WRONG
+from tools.fronting.faults import Failed, WRONG
 
 
 class Head:

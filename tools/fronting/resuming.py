@@ -7,14 +7,14 @@ import pathlib
 import re
 import time
 
-import runs
+from tools import runs
 
-from fronting.faults import WRONG, Failed
-from fronting.journal import GIVEN_UP, UNTIL, Batch, Journal, clock
-from fronting.keys import Keyless
-from fronting.provisioning import Head
-from fronting.segments import NUMBERED, Series, mend, name_of, older_segments
-from fronting.syncing import UNSYNCED
+from tools.fronting.faults import WRONG, Failed
+from tools.fronting.journal import GIVEN_UP, UNTIL, Batch, Journal, clock
+from tools.fronting.keys import Keyless
+from tools.fronting.provisioning import Head
+from tools.fronting.segments import NUMBERED, Series, mend, name_of, older_segments
+from tools.fronting.syncing import UNSYNCED
 
 TIMES = re.compile(rb"# time ([0-9-]+ [0-9:.]+)\n")
 SETTLED, TIME = b"# settled until segment ", b"# time "

@@ -6,9 +6,9 @@ import os
 import threading
 import time
 
-import versions
+from tools import versions
 
-from fronting import limits
+from tools.fronting import limits
 
 PLACE = 2  # standard error
 

@@ -2,7 +2,7 @@
 import socket
 import struct
 
-import s1ap
+from tools import s1ap
 
 S1AP_PROTOCOL = 18  # the payload protocol identifier of S1AP (TS 36.412 clause 7)
 RTO_INFO, ASSOCIATION_INFO, INIT, NODELAY, PATH_PARAMETERS, EVENTS, STATUS, BIND_MORE = 0, 1, 2, 3, 9, 11, 14, 100

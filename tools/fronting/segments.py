@@ -7,10 +7,10 @@ import pathlib
 import re
 import time
 
-import runs
+from tools import runs
 
-from fronting.faults import Failed, LOG_FAILS, WRONG, told
-from fronting.syncing import folder_of, sync_path
+from tools.fronting.faults import Failed, LOG_FAILS, WRONG, told
+from tools.fronting.syncing import folder_of, sync_path
 
 NUMBERED = re.compile(rb"^# segment (\d+), begun .*\n", re.MULTILINE)
 NUMBERED_LINE = re.compile(r"# segment \d+, begun ")  # the beginning of such a line

@@ -1,8 +1,8 @@
 """How the log is doing: its size, how many of its segments are used, and whether it is whole."""
 import os
 
-from fronting import limits
-from fronting.segments import older_segments
+from tools.fronting import limits
+from tools.fronting.segments import older_segments
 
 # What can't be done any more once the oldest segment of a series goes, by the series' place in the log.
 LOSSES = "the trace no longer plays from its beginning", "--resume and give can't use this run"

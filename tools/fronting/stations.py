@@ -1,10 +1,10 @@
 """A station: its connection, its number, its pace, and how far it has come."""
-from fronting import hearing, identity, limits
-from fronting.associations import Associations
-from fronting.identity import Identity
-from fronting.pace import Pace
+from tools.fronting import hearing, identity, limits
+from tools.fronting.associations import Associations
+from tools.fronting.identity import Identity
+from tools.fronting.pace import Pace
 
-import runs
+from tools import runs
 
 
 IN = ["in %d " % number for number in range(runs.STATIONS)]  # how the line of a station's message begins

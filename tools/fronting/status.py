@@ -2,8 +2,8 @@
 import json
 import time
 
-from fronting import limits
-from fronting.meters import OTHER, name_of
+from tools.fronting import limits
+from tools.fronting.meters import OTHER, name_of
 
 PIECE = 500  # phones that are told of at a time
 ALARMS = "vectors", "what happened", "what counts", "log"  # what there are alarms of

@@ -1,10 +1,10 @@
 """How many vectors each phone has left: those after the last that it was challenged with."""
 import collections
 
-import runs
+from tools import runs
 
-from fronting import limits
-from fronting.challenges import RAND_OCTETS
+from tools.fronting import limits
+from tools.fronting.challenges import RAND_OCTETS
 
 
 class Stock:

@@ -7,7 +7,7 @@ import queue
 import select
 import threading
 
-from fronting import limits
+from tools.fronting import limits
 
 UNSYNCED = ".unsynced"  # the end of the name of the file that stands beside a log which may not be on disk, with the boot's number
 BOOT = pathlib.Path("/proc/sys/kernel/random/boot_id")

@@ -7,12 +7,12 @@ import collections
 import time
 import typing
 
-import runs
-from eps.story import Told
-from eps.telling import Telling
-from eps.world import World
+from tools import runs
+from tools.eps.story import Told
+from tools.eps.telling import Telling
+from tools.eps.world import World
 
-from fronting import limits
+from tools.fronting import limits
 
 TOO_FAST = "messages came faster than their reasons could be found"
 TOO_MANY = "they are found for %d subscribers with %d vectors at the most" % (limits.MOST_TOLD_OF, limits.MOST_TOLD_BY)

@@ -7,13 +7,13 @@ it is while logs come and go; and a run that doesn't go on after its log begins 
 import os
 import re
 
-import runs
+from tools import runs
 
-from fronting.faults import Failed, LOG_FAILS, WRONG, told
-from fronting.keys import without_keys
-from fronting.provisioning import Head
-from fronting.segments import add_whole
-from fronting.syncing import folder_of, sync_path
+from tools.fronting.faults import Failed, LOG_FAILS, WRONG, told
+from tools.fronting.keys import without_keys
+from tools.fronting.provisioning import Head
+from tools.fronting.segments import add_whole
+from tools.fronting.syncing import folder_of, sync_path
 
 LOG_END = ".used"  # after a log's name
 LINE = re.compile(rb"[0-9]{14,15} [0-9a-f]{32}")

@@ -18,9 +18,10 @@ import subprocess
 import sys
 
 sys.dont_write_bytecode = True
-sys.path.insert(0, str(pathlib.Path(__file__).resolve().parent))
-import lines
-from words import say
+if __name__ == "__main__":
+    sys.path[0] = str(pathlib.Path(__file__).resolve().parents[2])
+from tools.program import lines
+from tools.program.words import say
 
 FAULT = re.compile(r"mme: line (\d+): fault ([1-7])")
 READ_FAILED = "mme: read failed"

@@ -9,8 +9,8 @@ import pathlib
 import shutil
 import subprocess
 
-import record
-from words import Failed
+from tools.program import record
+from tools.program.words import Failed
 
 
 def keeps_work(rt):

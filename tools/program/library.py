@@ -23,14 +23,11 @@ import tempfile
 import time
 
 sys.dont_write_bytecode = True
-sys.path.insert(0, str(pathlib.Path(__file__).resolve().parent))
-import children
-import kept
-import prove
-import record
-import toolchain
-from kept import ran
-from words import BAD_WORDS, Failed, say
+if __name__ == "__main__":
+    sys.path[0] = str(pathlib.Path(__file__).resolve().parents[2])
+from tools.program import children, kept, prove, record, toolchain
+from tools.program.kept import ran
+from tools.program.words import BAD_WORDS, Failed, say
 
 CRATE = record.LIBRARY
 FOLDER = record.TOP / "crates" / CRATE / "out" / "library"

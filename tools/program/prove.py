@@ -13,11 +13,10 @@ import tempfile
 import time
 
 sys.dont_write_bytecode = True
-sys.path.insert(0, str(pathlib.Path(__file__).resolve().parent))
-import children
-import record
-import toolchain
-from words import BAD_WORDS, Failed, say
+if __name__ == "__main__":
+    sys.path[0] = str(pathlib.Path(__file__).resolve().parents[2])
+from tools.program import children, record, toolchain
+from tools.program.words import BAD_WORDS, Failed, say
 
 PROCESSORS = ("x86-64", "x86-64-v2", "x86-64-v3")
 PROGRAM = record.TOP / "crates" / record.NAME / "out" / record.NAME

@@ -32,8 +32,9 @@ import tempfile
 import threading
 
 sys.dont_write_bytecode = True
-sys.path.insert(0, str(pathlib.Path(__file__).resolve().parent))
-from words import Failed, say
+if __name__ == "__main__":
+    sys.path[0] = str(pathlib.Path(__file__).resolve().parents[2])
+from tools.program.words import Failed, say
 
 # The words that have the toolchain prove something.
 PROVING = {"all", "check", "ci", "lib", "must-fail", "plant", "run", "test", "tidy", "verdict"}

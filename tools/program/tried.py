@@ -11,10 +11,8 @@ import shutil
 import subprocess
 import time
 
-import children
-import record
-import toolchain
-from words import Failed
+from tools.program import children, record, toolchain
+from tools.program.words import Failed
 
 # The allocation that is refused where none is to be: in a program that `rt try --fail-alloc NONE` builds the number stands as a
 # constant, in whose place another can be set.

@@ -18,12 +18,10 @@ import time
 
 sys.dont_write_bytecode = True
 HERE = pathlib.Path(__file__).resolve().parent
-sys.path.insert(0, str(HERE))
-import children
-import explained
-import record
-import tried
-from words import BAD_WORDS, Failed, say
+if __name__ == "__main__":
+    sys.path[0] = str(pathlib.Path(__file__).resolve().parents[2])
+from tools.program import children, explained, record, tried
+from tools.program.words import BAD_WORDS, Failed, say
 
 KEPT = record.TOP / "crates" / record.NAME / "out" / "unproved"
 SMALL = HERE / "play.rt.txt"  # the program of `mme play` alone; that of `mme sim` is the same with other names

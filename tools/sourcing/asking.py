@@ -8,8 +8,8 @@ import collections
 import os
 import select
 
-from sourcing.milenage import AUTS_OCTETS, BLOCK
-from sourcing.words import Fault, digits_of, field, hex_of, number_of, shown
+from tools.sourcing.milenage import AUTS_OCTETS, BLOCK
+from tools.sourcing.words import Fault, digits_of, field, hex_of, number_of, shown
 
 VECTORS, REGISTERED, GONE, UNKNOWN, LATER, CANCEL, RESET = "vectors", "registered", "gone", "unknown", "later", "cancel", "reset"
 MOST_VECTORS = 64  # of a request: as many as the MME takes of a subscriber

@@ -4,9 +4,8 @@ For test SIMs: the keys pass through plain Python, which keeps no secrets."""
 import collections
 import hmac
 
-from eps import ciphers
-
-from sourcing.words import SQN_OCTETS, Fault
+from ..eps import ciphers  # (by where they stand, since soizkadur.standards has this module below itself)
+from .words import SQN_OCTETS, Fault
 
 BLOCK = 16  # octets of an AES block and of a key of 128 bits (FIPS 197 clause 3.1)
 AMF_OCTETS, AUTS_OCTETS = 2, 14  # TS 33.102 clauses 6.3.2 and 6.3.3

@@ -1,7 +1,7 @@
 """Files that are their owner's alone."""
 import os
 
-from sourcing.words import Fault
+from tools.sourcing.words import Fault
 
 OF_OTHERS = 0o077  # the bits of a mode that let others in
 MODE = 0o600

@@ -3,7 +3,7 @@ import contextlib
 import os
 import select
 
-import versions
+from tools import versions
 
 PLACE = 2  # standard error
 LONGEST = 2000  # characters of a line; what can be written is written whole (pipe(7), PIPE_BUF)

@@ -5,13 +5,13 @@ import contextlib
 import os
 import signal
 
-import versions
+from tools import versions
 
-from sourcing import asking, milenage, private, sims
-from sourcing.asking import LATER, UNKNOWN, VECTORS, Refused
-from sourcing.saying import Voice
-from sourcing.store import Store
-from sourcing.words import SQN_OCTETS, Fault
+from tools.sourcing import asking, milenage, private, sims
+from tools.sourcing.asking import LATER, UNKNOWN, VECTORS, Refused
+from tools.sourcing.saying import Voice
+from tools.sourcing.store import Store
+from tools.sourcing.words import SQN_OCTETS, Fault
 
 INPUT, OUTPUT = 0, 1
 FIRST_SQN = milenage.stepped(0, 1)  # of a SIM whose line has none

@@ -2,8 +2,8 @@
 after the IMSI. Empty lines are skipped, and # begins a comment. No fault shows a key."""
 import collections
 
-from sourcing.milenage import AMF_OCTETS, BLOCK, operator_key
-from sourcing.words import Fault, digits_of, field, hex_of, sqn_of
+from tools.sourcing.milenage import AMF_OCTETS, BLOCK, operator_key
+from tools.sourcing.words import Fault, digits_of, field, hex_of, sqn_of
 
 MOST_SIMS = 32768  # subscribers that the MME takes
 MOST_OF_A_LIST = 1 << 23  # octets

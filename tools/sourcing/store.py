@@ -5,9 +5,9 @@ import os
 import sqlite3
 import time
 
-from sourcing import private
-from sourcing.milenage import SQNS, stepped
-from sourcing.words import Fault
+from tools.sourcing import private
+from tools.sourcing.milenage import SQNS, stepped
+from tools.sourcing.words import Fault
 
 APPLICATION = int.from_bytes(b"SQNs", "big")  # what says in SQLite's file whose it is
 BUSY_SECONDS = 5  # that another source may have the store

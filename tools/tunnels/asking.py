@@ -4,9 +4,9 @@ import select
 import socket
 import time
 
-from fronting.pace import Pace
+from tools.fronting.pace import Pace
 
-from tunnels import limits
+from tools.tunnels import limits
 
 STATE = "state"  # how the answer begins that has a phone's states
 REFUSED = ("refused", "fault")

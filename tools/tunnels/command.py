@@ -8,25 +8,24 @@ import select
 import signal
 import time
 
-import runs
-import versions
-from fronting.command import name_of, page_of
-from fronting.faults import NOT_YET, WRONG, Failed, told
-from fronting.listening import failed, page_listener_of
-from fronting.loop import Loop
-from fronting.notify import Manager
-from fronting.saying import Voice
+from tools import runs, versions
+from tools.fronting.command import name_of, page_of
+from tools.fronting.faults import NOT_YET, WRONG, Failed, told
+from tools.fronting.listening import failed, page_listener_of
+from tools.fronting.loop import Loop
+from tools.fronting.notify import Manager
+from tools.fronting.saying import Voice
 
-from tunnels import given, limits
-from tunnels.asking import Asking
-from tunnels.devices import Devices
-from tunnels.feed import Feed
-from tunnels.gateway import Gateway
-from tunnels.kept import Kept
-from tunnels.netlink import Refused
-from tunnels.page import Page
-from tunnels.phones import Phones
-from tunnels.sockets import PORT
+from tools.tunnels import given, limits
+from tools.tunnels.asking import Asking
+from tools.tunnels.devices import Devices
+from tools.tunnels.feed import Feed
+from tools.tunnels.gateway import Gateway
+from tools.tunnels.kept import Kept
+from tools.tunnels.netlink import Refused
+from tools.tunnels.page import Page
+from tools.tunnels.phones import Phones
+from tools.tunnels.sockets import PORT
 
 USAGE = "%(prog)s [--page ADDRESS:PORT] CONTROL ADDRESS PREFIX\n       %(prog)s --sims LIST --given FILE ADDRESS PREFIX"
 LONGEST_NAME = 8  # letters of a name, so that all names of devices have room

@@ -3,7 +3,7 @@ ends."""
 import struct
 import typing
 
-from tunnels.netlink import ACK, DUMP, EXCL, GENERIC, Netlink, attributes, text
+from tools.tunnels.netlink import ACK, DUMP, EXCL, GENERIC, Netlink, attributes, text
 
 CONTROLLER, GET_FAMILY, FAMILY_ID, FAMILY_NAME = 16, 3, 1, 2  # linux/genetlink.h
 NEW, DELETE, GET = 0, 1, 2

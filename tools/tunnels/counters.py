@@ -4,8 +4,8 @@ import errno
 import socket
 import struct
 
-from tunnels.netlink import ACK, CREATE, DUMP, EXCL, NETFILTER, ROUTE, Netlink, Refused, attribute, attributes, each_attribute
-from tunnels.netlink import nested, text
+from tools.tunnels.netlink import ACK, CREATE, DUMP, EXCL, NETFILTER, ROUTE, Netlink, Refused, attribute, attributes, each_attribute
+from tools.tunnels.netlink import nested, text
 
 SUBSYSTEM, PROTOCOL_VERSION, REVISION = 6, 7, 4  # linux/netfilter/ipset/ip_set.h
 MAKE, DESTROY, LIST, ADD, DELETE, INDEX_OF = 2, 3, 7, 9, 10, 14

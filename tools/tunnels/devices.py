@@ -8,11 +8,11 @@ import ipaddress
 import os
 import socket
 
-from tunnels import links, limits, sockets
-from tunnels.contexts import Contexts
-from tunnels.counters import Counters
-from tunnels.links import Links, index_of
-from tunnels.netlink import Refused, is_there_already
+from tools.tunnels import links, limits, sockets
+from tools.tunnels.contexts import Contexts
+from tools.tunnels.counters import Counters
+from tools.tunnels.links import Links, index_of
+from tools.tunnels.netlink import Refused, is_there_already
 
 OTHERS, IDLE = "others", "idle"  # the names of what is kept: the socket of whoever has no device, and the device of idle phones
 LOCK = "\0soizkadur gateway %s"  # a name that one process of a network has, for an address and for the name of devices each

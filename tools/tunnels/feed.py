@@ -2,8 +2,8 @@
 import select
 import socket
 
-from tunnels import limits
-from tunnels.phones import Fault, subscriber, tunnel
+from tools.tunnels import limits
+from tools.tunnels.phones import Fault, subscriber, tunnel
 
 ASKED = b"bearers\n"
 

@@ -10,15 +10,15 @@ import os
 import socket
 import time
 
-from fronting.pace import Pace
+from tools.fronting.pace import Pace
 
-from tunnels import gtpu, limits
-from tunnels.contexts import Context
-from tunnels.links import HOST
-from tunnels.netlink import Refused, is_missing
-from tunnels.phones import Phone, Tunnel, count
-from tunnels.sockets import PORT
-from tunnels.waiting import Waiting
+from tools.tunnels import gtpu, limits
+from tools.tunnels.contexts import Context
+from tools.tunnels.links import HOST
+from tools.tunnels.netlink import Refused, is_missing
+from tools.tunnels.phones import Phone, Tunnel, count
+from tools.tunnels.sockets import PORT
+from tools.tunnels.waiting import Waiting
 
 FROM_STATIONS, TO_PHONES = "from stations", "to phones"  # ways of packets that are dropped
 ANOTHER_SENDER, NO_TUNNEL, UNKNOWN, WRONG_SOURCE = "another sender", "no tunnel", "unknown TEID", "wrong source"

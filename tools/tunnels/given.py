@@ -5,9 +5,9 @@ import ipaddress
 import os
 import secrets
 
-import runs
+from tools import runs
 
-from tunnels import phones
+from tools.tunnels import phones
 
 MOST = 1 << 15  # subscribers of an MME
 LEAST_HOSTS = 4  # addresses of a network of which some are hosts'

@@ -5,7 +5,8 @@ import os
 import socket
 import struct
 
-from tunnels.netlink import ACK, CREATE, EXCL, REPLACE, ROUTE, Netlink, Refused, attribute, attributes, is_missing, nested, text
+from tools.tunnels.netlink import (ACK, CREATE, EXCL, REPLACE, ROUTE, Netlink, Refused, attribute, attributes, is_missing, nested,
+                                   text)
 
 NEW_LINK, DELETE_LINK, NEW_ROUTE, DELETE_ROUTE, GET_ROUTES = 16, 17, 24, 25, 26
 NAME, MTU, LINK_INFO, INFO_KIND, INFO_DATA = 3, 4, 18, 1, 2  # attributes of a link (linux/if_link.h)

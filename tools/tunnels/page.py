@@ -1,16 +1,16 @@
 """Metrics and the page of a gateway that runs, by HTTP: packets and octets of each phone, what was dropped and why, what waits."""
 import time
 
-import versions
-from fronting import limits as guest_limits
-from fronting.guests import Door
-from fronting.markup import linked, shown, table
-from fronting.metrics import Text
-from fronting.page import (LOCAL, METRICS_FORM, MISDIRECTED, NOT_ALLOWED, NOT_FOUND, OK, PAGE_FORM, TEXT_FORM, UNSAID, hosts_of,
-                           is_address, lasting, response, whole)
+from tools import versions
+from tools.fronting import limits as guest_limits
+from tools.fronting.guests import Door
+from tools.fronting.markup import linked, shown, table
+from tools.fronting.metrics import Text
+from tools.fronting.page import (LOCAL, METRICS_FORM, MISDIRECTED, NOT_ALLOWED, NOT_FOUND, OK, PAGE_FORM, TEXT_FORM, UNSAID,
+                                 hosts_of, is_address, lasting, response, whole)
 
-from tunnels import limits
-from tunnels.counters import DOWN, UP
+from tools.tunnels import limits
+from tools.tunnels.counters import DOWN, UP
 
 MOST_PHONES = 100  # that the page lists
 NO_PAGE = b"/, /metrics and /health; /?from=N for phones from that one on, /?imsi=N for one\n"

@@ -1,8 +1,8 @@
 """Stations and phones that know the standards and not the MME: what they send, and what the MME owes for it.
 
 `lte` has the octets (AES, CMAC, the keys, aligned packed encoding, S1AP and NAS), `phones` the network, stations and phones as
-lines of a trace with the answers that are owed; a clone has both in bench/, where its benchmarks and tests use them, and a package
-has them beside this file. Here stand
+lines of a trace with the answers that are owed; a clone has both in reference/, where its tests and benchmarks use them, and a
+package has them beside this file. Here stand
 
 - `Live`: a trace that an MME plays while it is written, which compares each answer with what is owed;
 - `FailingPhone`: a phone that also does what phones shouldn't;
@@ -12,27 +12,24 @@ has them beside this file. Here stand
 """
 import importlib
 import pathlib
-import sys
 
 _HERE = pathlib.Path(__file__).resolve().parent
 _CLONE = _HERE.parents[2]
 
 
 def _beside(name: str, *folders: pathlib.Path):
-    """A module by its file's name in the first of these folders that has it; it may name others there without a package."""
+    """A module of this package by its file's name in the first of these folders that has it."""
     folder = next((folder for folder in folders if (folder / (name + ".py")).exists()), None)
     if folder is None:
         raise ImportError("no %s.py in %s: this copy of the package isn't whole; take the whole package, or put the folder python "
                           "of a clone on PYTHONPATH" % (name, " or ".join(map(str, folders))))
-    sys.path.insert(0, str(folder))
-    try:
-        return importlib.import_module(name)
-    finally:
-        sys.path.remove(str(folder))
+    if str(folder) not in __path__:
+        __path__.append(str(folder))
+    return importlib.import_module("." + name, __name__)
 
 
-lte = _beside("lte", _HERE, _CLONE / "bench")
-phones = _beside("phones", _HERE, _CLONE / "bench")
+lte = _beside("lte", _HERE, _CLONE / "reference")
+phones = _beside("phones", _HERE, _CLONE / "reference")
 _s1ap = _beside("s1ap", _HERE, _CLONE / "tools")
 Network, OutOfPlace, Station, Vector = phones.Network, phones.OutOfPlace, phones.Station, phones.Vector
 

@@ -1,8 +1,7 @@
 """A test SIM: Milenage (TS 35.206) as tools/vectors has it, its home's vectors and the phone's answers to them."""
 import functools
 import hashlib
-import importlib.machinery
-import importlib.util
+import importlib
 import sys
 from typing import NamedTuple
 
@@ -17,17 +16,13 @@ SQN_BITS, INDEX_BITS = 48, 5
 
 @functools.cache
 def _vectors():
-    """tools/vectors, as a module."""
+    """The functions of tools/vectors: tools/sourcing/milenage.py, as a module below this package."""
     if not (TOOLS / "vectors").exists():
         raise ImportError("no %s, which a Sim runs" % (TOOLS / "vectors"))
-    sys.path.insert(0, str(TOOLS))
-    try:
-        loader = importlib.machinery.SourceFileLoader("soizkadur_vectors", str(TOOLS / "vectors"))
-        module = importlib.util.module_from_spec(importlib.util.spec_from_loader(loader.name, loader))
-        loader.exec_module(module)
-        return module
-    finally:
-        sys.path.remove(str(TOOLS))
+    folders = sys.modules[__package__].__path__
+    if str(TOOLS) not in folders:
+        folders.append(str(TOOLS))
+    return importlib.import_module(".sourcing.milenage", __package__)
 
 
 class Answer(NamedTuple):

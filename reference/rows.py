@@ -7,10 +7,13 @@ With --check nothing is written: the rows that are there must be those that woul
 """
 import argparse
 import os
+import pathlib
 import sys
 
-import lte
-from phones import CONNECTED, IDLE, PENDING, UNDER_WAY, KNOWN_VECTOR, Network, Phone, Station, Trace, Vector
+if __name__ == "__main__":
+    sys.path[0] = str(pathlib.Path(__file__).resolve().parent.parent)
+from reference import lte
+from reference.phones import CONNECTED, IDLE, PENDING, UNDER_WAY, KNOWN_VECTOR, Network, Phone, Station, Trace, Vector
 
 FOLDER = os.path.join(os.path.dirname(os.path.abspath(__file__)), "..", "tests", "rows")
 ROWS = []

@@ -8,10 +8,13 @@ never from the MME's output. It takes scripts without faults; of `raw` it knows 
 text where a script goes where it hasn't the MME's answer.
 """
 import collections
+import pathlib
 import sys
 
-import lte
-from phones import Network, Vector
+if __name__ == "__main__":
+    sys.path[0] = str(pathlib.Path(__file__).resolve().parent.parent)
+from reference import lte
+from reference.phones import Network, Vector
 
 MOST_FURTHER = 64  # events of a script's line or a tick beyond its own
 FOREIGN_GUTI = bytes.fromhex("f602f83900010212345678")

@@ -4,7 +4,7 @@ that the MME owes, made from the standards' formats (lte.py) and never from the 
 import functools
 import hashlib
 
-import lte
+from . import lte  # (so that it is found beside this file too where soizkadur.standards has both)
 
 CONNECTED, IDLE = "REGISTERED CONNECTED ACTIVE", "REGISTERED IDLE ACTIVE"
 UNDER_WAY = "COMMON-PROCEDURE-INITIATED CONNECTED INACTIVE"

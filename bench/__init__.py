@@ -1,0 +1,1 @@
+"""Benchmarks, which are programs, and what they share."""

@@ -1,0 +1,1 @@
+"""The tests of this repository, each folder with its own `run`, and what they share."""

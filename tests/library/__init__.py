@@ -1,0 +1,1 @@
+"""The library for C and Python, by what is right elsewhere."""

@@ -1,0 +1,1 @@
+"""The packages in a clean root."""

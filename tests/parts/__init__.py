@@ -1,0 +1,1 @@
+"""Calls of the crates' parts, and what they answer."""

@@ -1,0 +1,1 @@
+"""Several MMEs as one pool."""

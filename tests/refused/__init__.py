@@ -1,0 +1,1 @@
+"""Memory, reads and writes that are refused."""

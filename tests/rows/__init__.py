@@ -1,0 +1,1 @@
+"""Traces, each with the answers that the MME owes."""

@@ -1,0 +1,1 @@
+"""Scripts, each with the trace that `mme sim` owes."""

@@ -1,0 +1,1 @@
+"""The tools, as programs and as modules."""
