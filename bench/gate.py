@@ -1,9 +1,9 @@
 #!/usr/bin/env python3
 """Runs the gate, or another command, and prints the processor time that each crate took in it: proof, tests, edits, guards.
 
-    python3 bench/gate.py                              runs .ci/run
-    taskset -c 0,1 python3 bench/gate.py               the same on two processors
-    python3 bench/gate.py -- rt must-fail mme_routing  runs another command
+    python3 bench/gate.py                                 runs .ci/run
+    taskset -c 0,1 python3 bench/gate.py                  the same on two processors
+    python3 bench/gate.py -- rt must-fail identity_slots  runs another command
 
 What the command prints goes to standard error, the table to standard output. Once a second all processes that descend from
 the command are looked at, so a figure may lack a second for each process. Linux alone."""

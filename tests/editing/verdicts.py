@@ -11,7 +11,7 @@ CALLS_UNPROVED = "no proof: it calls "
 IN_PROOFS = re.compile(r"^(?:\./)?(proofs/\S+?):\d+:\d+: error: (?:`([^`]+)`: )?(.*)$", re.MULTILINE)
 NAMES_NOTHING = re.compile(r"has no field|is not in scope|has no `|was not admitted")
 # A function's first line, and the first of what holds functions, in the layout of `rt fmt`.
-FUNCTION = re.compile(r"^( *)(?:pub(?:\([a-z]+\))? )?(?:const |unsafe )*fn (\w+)", re.MULTILINE)
+FUNCTION = re.compile(r"^( *)(?:pub(?:\([a-z]+\))? )?(?:const |unsafe |extern \"C\" )*fn (\w+)", re.MULTILINE)
 HOLDER = re.compile(r"^(?:pub(?:\([a-z]+\))? )?(?:impl|trait)\b([^{;]*)", re.MULTILINE)
 
 

@@ -86,6 +86,12 @@ class Edits(unittest.TestCase):
             with self.subTest(names):
                 self.assertEqual(place.named("low", names), found)
 
+    def test_function_for_c(self):
+        """So is one that C calls."""
+        text = "#[unsafe(no_mangle)]\npub extern \"C\" fn low_number(octets: &[u8]) -> u32 {\n    one\n}\n"
+        place = verdicts.place_of(text, text.index("one"), "src/codecs.rt")
+        self.assertEqual(place.named("low", ["low::codecs::number", "low::codecs::low_number"]), "low::codecs::low_number")
+
 
 # What a check of one function printed, in its own words and cut short: where its answers name a branch that the edit took away, where
 # an answer fits and proves nothing, and where goals are open.
