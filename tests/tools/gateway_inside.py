@@ -5,6 +5,7 @@ for minutes, it says where each thread stands, and ends.
 
     gateway_inside.py RESULTS
 """
+import errno
 import faulthandler
 import itertools
 import os
@@ -23,8 +24,8 @@ import unittest
 
 if __name__ == "__main__":
     sys.path[0] = str(pathlib.Path(__file__).resolve().parents[2])
-from tests.tools.gateway_world import (ADDRESS, GATEWAY, INTERNET, MACHINE, NET, PATIENCE, QUIET, STATIONS, Phone, World, checksum,
-                                       gtpu, inside, lay, load_modules, lte, packet, phones, sh, until)
+from tests.tools.gateway_world import (ADDRESS, GATEWAY, INTERNET, MACHINE, NET, PAGE_OF_FRONT, PATIENCE, QUIET, STATIONS, Phone, World,
+                                       checksum, gtpu, inside, lay, links, load_modules, lte, packet, phones, sh, until)
 from tests.tools.sctp_inside import Named, name_of
 from tests.tools.test_lab import DOCUMENT as LAB
 from tests.tools.test_lab import blocks
@@ -55,6 +56,11 @@ def echoes(name, to, count=3):
                 break
     sock.close()
     return answered
+
+
+def refusals(faults):
+    """Which of several requests failed, and for what."""
+    return {at: fault for at, fault in enumerate(faults) if fault}
 
 
 class Flow:
@@ -148,7 +154,7 @@ class Whole(unittest.TestCase):
         sink.sendto(b"down", (self.phone.ip, 9))
         for number in numbers or (0, 1):
             self.world.planes[number].send_up(self.phone.own_teid, packet(self.phone.ip))
-        self.assertEqual(select.select([sink], [], [], 2 * QUIET)[0], [])
+        self.arrives_nothing(sink)
         self.assertEqual([plane.kinds(gtpu.PACKET) for plane in self.world.planes], [[], []])
 
     def sink(self):
@@ -160,12 +166,17 @@ class Whole(unittest.TestCase):
         self.addCleanup(sock.close)
         return sock
 
-    def arrives(self, sink, source):
-        """Whether a packet comes from a phone."""
-        if not select.select([sink], [], [], 2 * QUIET)[0]:
-            return False
-        self.assertEqual(sink.recvfrom(100)[1][0], source)
-        return True
+    def arrives(self, sink):
+        """Waits until a packet comes from the phone."""
+        self.assertEqual(select.select([sink], [], [], PATIENCE)[0], [sink])
+        self.assertEqual(sink.recvfrom(100)[1][0], self.phone.ip)
+
+    def arrives_nothing(self, sink):
+        """The gateway has taken all that stations have sent, and they what it sent, and no packet has come."""
+        for plane in self.world.planes:
+            plane.is_echoed(0x4321)
+            plane.has_heard_all()
+        self.assertEqual(select.select([sink], [], [], QUIET)[0], [])
 
     # Packets pass.
 
@@ -206,6 +217,16 @@ class Whole(unittest.TestCase):
         told = "tunnel %s %s %d" % (self.phone.imsi, STATIONS[0], self.phone.b)
         self.assertEqual(self.world.ask("tunnel", self.phone.imsi), told)
         self.assertIn("<td>%s</td>" % self.phone.ip, self.world.fetch("/"))
+        self.is_on_the_fronts_page(names)
+
+    def is_on_the_fronts_page(self, names):
+        """The front's page and metrics have the phone's packets as the gateway has them."""
+        page, metrics = (self.world.fetch(target, PAGE_OF_FRONT) for target in ("/?imsi=" + self.phone.imsi, "/metrics"))
+        cells = "".join("<td[^>]*>%s</td>" % re.escape(str(value)) for value in (STATIONS[0], self.phone.b))
+        self.assertRegex(page, cells)
+        for name in names:
+            self.assertIn("\nsoizkadur_tunnel_%s} %d\n" % (name, self.world.metric(name)), metrics)
+        self.assertIn("\nsoizkadur_tunnel_contexts{gateway=\"%s\"} 2\n" % ADDRESS, metrics)
 
     # An idle phone.
 
@@ -262,7 +283,7 @@ class Whole(unittest.TestCase):
         self.phone.asks_for_service(self.world.stations[1], b)
         self.world.planes[1].send_up(self.phone.own_teid, packet(self.phone.ip))
         self.phone.context_is_set_up()
-        self.assertTrue(self.arrives(sink, self.phone.ip))
+        self.arrives(sink)
         self.world.is_tunnel(self.phone, 1, b)
         self.phone.leaves()
 
@@ -287,7 +308,7 @@ class Whole(unittest.TestCase):
             self.world.planes[1].send_up(self.phone.own_teid, packet(self.phone.ip))
         self.phone.moves(1, b)
         for _ in range(5):
-            self.assertTrue(self.arrives(sink, self.phone.ip))
+            self.arrives(sink)
         self.phone.leaves()
 
     def test_path_switch_refused(self):
@@ -428,14 +449,36 @@ class Whole(unittest.TestCase):
                             (0x34, b"\0\0\0\x85" + b"\2" + bytes(6) + b"\xc0" + b"\1\0\1\0")):
             octets = struct.pack(">BBHI", flags, gtpu.PACKET, len(more + inner), self.phone.own_teid) + more + inner
             self.world.planes[0].send(octets)
-            self.assertTrue(self.arrives(sink, self.phone.ip), flags)
+            self.arrives(sink)
 
     def test_other_port(self):
         """A station sends from what port it likes (TS 29.281 clause 4.4.2.0)."""
         sink = self.sink()
         octets = gtpu.packed(gtpu.PACKET, self.phone.own_teid, packet(self.phone.ip))
         self.world.planes[0].stranger.sendto(octets, (ADDRESS, 2152))
-        self.assertTrue(self.arrives(sink, self.phone.ip))
+        self.arrives(sink)
+
+    def test_refused_requests(self):
+        """Of many in a write, the kernel's driver and its routes refuse those alone that can't be, each for its own reason."""
+        self.world.is_tunnel(self.phone, 0, self.phone.b)
+        made, missing = self.world.contexts, 9999
+        [own] = [each for each in made.all() if each.phone == self.phone.address]
+        wanted = [own._replace(phone=bytes([10, 45, 200, at]), own_teid=0x7F000000 + at) for at in range(120)]
+        wanted[0] = wanted[49] = wanted[119] = own
+        wanted[60] = wanted[60]._replace(device=missing)
+        self.assertEqual(refusals(made.add(wanted)), {0: errno.EEXIST, 49: errno.EEXIST, 60: errno.ENODEV, 119: errno.EEXIST})
+        pairs = [(each.device, each.own_teid) for each in wanted if each is not own]
+        self.assertLess(set(pairs), {(each.device, each.own_teid) for each in made.all()} | {(missing, 0x7F000000 + 60)})
+        self.assertEqual(refusals(made.delete(pairs)), {pairs.index((missing, 0x7F000000 + 60)): errno.ENODEV})
+        self.assertEqual(set(made.delete(pairs)), {errno.ENOENT, errno.ENODEV})
+        with inside(MACHINE):
+            ways = links.Links()
+        self.addCleanup(ways.close)
+        hosts = [(each.phone, 32, own.device) for each in wanted]
+        self.assertEqual(refusals(ways.add(hosts)), {0: errno.EEXIST, 49: errno.EEXIST, 119: errno.EEXIST})
+        others = [host for host in hosts if host[0] != own.phone]
+        self.assertEqual([set(ways.delete(others)) for _ in range(2)], [{0}, {errno.ESRCH}])
+        self.passes()
 
     # Strangers.
 
@@ -450,8 +493,8 @@ class Whole(unittest.TestCase):
         octets = gtpu.packed(gtpu.PACKET, self.phone.own_teid, packet(self.phone.ip))
         self.world.planes[1].send(octets)
         stranger.sendto(octets, (ADDRESS, 2152))
-        self.assertFalse(self.arrives(sink, self.phone.ip))
         until(lambda: self.world.dropped("another sender") == before + 2, "both are counted")
+        self.arrives_nothing(sink)
         self.passes()
 
     def test_unknown_tunnel(self):
@@ -472,8 +515,8 @@ class Whole(unittest.TestCase):
         sink, before = self.sink(), self.world.dropped("wrong source")
         for source in (self.other.ip, "10.45.0.99", INTERNET):
             self.world.planes[0].send_up(self.phone.own_teid, packet(source))
-        self.assertFalse(self.arrives(sink, self.phone.ip))
         until(lambda: self.world.dropped("wrong source") == before + 3, "three are counted")
+        self.arrives_nothing(sink)
 
     def test_mutations(self):
         """Cut and changed headers from the phone's own station: nothing ends, and what passes is the phone's own."""
@@ -550,8 +593,8 @@ class Whole(unittest.TestCase):
     def test_second_gateway(self):
         """With the address or the name of one that runs it doesn't begin, and the first goes on."""
         for words in (["--name", "other", "control", ADDRESS, "10.46.0.0/16"], ["control", "10.0.0.101", "10.46.0.0/16"]):
-            done = subprocess.run(["ip", "netns", "exec", MACHINE, sys.executable, GATEWAY, *words], capture_output=True,
-                                  text=True, timeout=PATIENCE, check=False)
+            done = subprocess.run(["ip", "netns", "exec", MACHINE, *GATEWAY, *words], capture_output=True, text=True,
+                                  timeout=PATIENCE, check=False)
             self.assertEqual(done.returncode, 75)
             self.assertRegex(done.stderr, "^gateway: another gateway runs for (mme|10.0.0.100): Address already in use\n$")
         self.passes()
@@ -729,10 +772,10 @@ class Lab(unittest.TestCase):
         text = LAB.read_text(encoding="utf-8")
         wanted = [block for block in blocks(text.partition("## 2.")[0]) if re.match("lab=|mkdir .*/names|cat >.lab/sims", block)]
         self.assertEqual(len(wanted), 3)
-        wanted += blocks(re.search("^## 9. A phone gets to the Internet\n.*?(?=^## )", text, re.M | re.S)[0])
+        wanted += [self.SUDO, *blocks(re.search("^## 9. A phone gets to the Internet\n.*?(?=^## )", text, re.M | re.S)[0])]
         folder = world.folder / "lab"
         folder.mkdir()
-        commands = self.SUDO + "\n".join(wanted).replace("lab=$(mktemp -d)", "lab=%s" % folder).replace("192.0.2.1", ADDRESS)
+        commands = "\n".join(wanted).replace("lab=$(mktemp -d)", "lab=%s" % folder).replace("192.0.2.1", ADDRESS)
         with open(folder / "printed", "w") as printed:
             running = subprocess.Popen(["bash", "-euc", commands], cwd=TOP, stdout=printed, stderr=subprocess.STDOUT,
                                        stdin=subprocess.DEVNULL, start_new_session=True)

@@ -20,18 +20,20 @@ from tools.fronting import sctp
 from tools.tunnels import contexts, gtpu, links
 
 PROGRAM = tools.TOP / "crates" / "mme" / "out" / "mme"
-FRONT, GATEWAY = tools.TOP / "tools" / "front", tools.TOP / "tools" / "gateway"
+# The tools need nothing but Python's own library, and without looking for more they begin sooner.
+FRONT, GATEWAY = ([sys.executable, "-S", tools.TOP / "tools" / name] for name in ("front", "gateway"))
 ADDRESS, INTERNET, PREFIX = "10.0.0.100", "198.51.100.2", "10.45.0.0/16"
 STATIONS = ("10.1.0.2", "10.2.0.2")
 MACHINE, NET = "core", "net"
 PATIENCE = 240  # seconds for what takes a moment where the machine has nothing else to do
-QUIET = 0.5  # seconds in which what isn't to come would have come
+QUIET = 0.2  # seconds in which what isn't to come would have come
 LONG_TICK = "86400"  # so that no timer of the MME's ends but where a test has it
 MODULES = ("drivers/net/veth", "drivers/net/tun", "drivers/net/gtp", "net/netfilter/nfnetlink", "net/netfilter/ipset/ip_set",
            "net/netfilter/ipset/ip_set_hash_ip", "net/sched/sch_ingress", "net/sched/cls_basic", "net/sched/em_ipset")
 NEW_NETWORK = 0x40000000  # sched.h: CLONE_NEWNET
 LIBC = ctypes.CDLL(None, use_errno=True)
 S1AP_PORT, S1AP = 36412, 18
+PAGE, PAGE_OF_FRONT = 9200, 9100  # ports of the pages of the gateway and of the front
 
 
 def sh(text):
@@ -291,8 +293,7 @@ class Keeper:
         self.is_ready.clear()
         names = list(self.files)
         given = "exec %s\n" % " ".join("%d<&%d" % (3 + at, self.files[name]) for at, name in enumerate(names)) if names else ""
-        command = ["ip", "netns", "exec", MACHINE, "bash", "-c", given + 'LISTEN_PID=$$ exec "$@"', "bash", sys.executable, GATEWAY,
-                   *words]
+        command = ["ip", "netns", "exec", MACHINE, "bash", "-c", given + 'LISTEN_PID=$$ exec "$@"', "bash", *GATEWAY, *words]
         self.process = subprocess.Popen(list(map(str, command)), stderr=subprocess.PIPE, pass_fds=list(self.files.values()), env={
             **os.environ, "NOTIFY_SOCKET": self.path, "LISTEN_FDS": str(len(names)), "LISTEN_FDNAMES": ":".join(names)})
         threading.Thread(target=self.read, args=(self.process,), daemon=True).start()
@@ -366,9 +367,9 @@ class World:
 
     def begin_front(self, *words):
         given = ["run", self.subscribers, self.log, "--listen", ADDRESS, "--mme", PROGRAM, "--per-address", "8", "--second",
-                 LONG_TICK, "--setup-seconds", "86400", "--answer-seconds", "600", "--sync", "no", *words]
-        self.front = subprocess.Popen(["ip", "netns", "exec", MACHINE, sys.executable, FRONT, *map(str, given)],
-                                      stderr=subprocess.PIPE, text=True)
+                 LONG_TICK, "--setup-seconds", "86400", "--answer-seconds", "600", "--sync", "no",
+                 "--page", "127.0.0.1:%d" % PAGE_OF_FRONT, *words]
+        self.front = subprocess.Popen(["ip", "netns", "exec", MACHINE, *FRONT, *map(str, given)], stderr=subprocess.PIPE, text=True)
         for line in self.front.stderr:
             self.front_told.append(line)
             if "ready: stations" in line:
@@ -410,7 +411,7 @@ class World:
     # The gateway.
 
     def begin_gateway(self, *words):
-        self.keeper.start(self.control, ADDRESS, PREFIX, "--page", "127.0.0.1:9200", *words)
+        self.keeper.start(self.control, ADDRESS, PREFIX, "--page", "127.0.0.1:%d" % PAGE, *words)
         until(lambda: "the front tells of" in self.keeper.said(), self.keeper.said)
 
     def end_gateway(self, number=signal.SIGKILL):
@@ -419,10 +420,10 @@ class World:
         self.keeper.told.clear()
         return status
 
-    def fetch(self, target):
-        """What the gateway's page answers."""
+    def fetch(self, target, port=PAGE):
+        """What the gateway's page answers, or that of the front."""
         with inside(MACHINE):
-            asking = socket.create_connection(("127.0.0.1", 9200), PATIENCE)
+            asking = socket.create_connection(("127.0.0.1", port), PATIENCE)
         with asking:
             asking.sendall(b"GET %s HTTP/1.1\r\nHost: localhost\r\n\r\n" % target.encode())
             return asking.makefile("rb").read().decode()

@@ -1,4 +1,5 @@
 """deploy/completion.bash: what bash offers for words that have begun."""
+import os
 import subprocess
 import unittest
 
@@ -33,6 +34,15 @@ class Completion(unittest.TestCase):
         self.assertEqual(offered("_mme", "mme", "--explain", "sim", "examples/li"), ["examples/lies.script", "examples/lies.trace"])
         for words in (["--version", ""], ["play", "examples/lies.trace", ""], ["fly", ""]):
             self.assertEqual(offered("_mme", "mme", *words), [])
+
+    def test_names(self):
+        """Each tool has completions, by the name that it has here and by the one that it is installed under."""
+        names = [path.name for path in (tools.TOP / "tools").iterdir()
+                 if path.is_file() and os.access(path, os.X_OK) and path.name != "charts"]
+        words = [place + name for name in names for place in ("tools/", "mme-")]
+        done = subprocess.run(["bash", "-c", '. deploy/completion.bash; complete -p "$@"', "bash", *words], cwd=tools.TOP,
+                              capture_output=True, text=True, timeout=60, check=False)
+        self.assertEqual((done.stdout.splitlines(), done.stderr), (["complete -F _mme_tool " + word for word in words], ""))
 
     def test_tools(self):
         """A tool's own options, its commands, and files."""

@@ -11,6 +11,7 @@ from tests.tools import tools
 from tests.tools.browsing import IS_MISSING, Browser
 from tests.tools.fronted import HEAD, IMSI, PROGRAM
 from tests.tools.test_front_page import ERROR, PHONES, SETUP, Spoken, lte
+from tests.tools.test_front_traffic import COUNTED, Gateway
 
 WIDE, NARROW = 1280, 420
 ENB_NAME, ENB_ID, TACS = 60, 0x1A2B3, (1, 0x2A)
@@ -21,6 +22,7 @@ WHOLE_PAGE = "document.documentElement"
 # What stands further to the right than the screen has room for, but for what scrolls.
 TOO_WIDE = """[...document.querySelectorAll("body *")].filter(each => each.getBoundingClientRect().right > %d + 0.5
     && !each.parentElement.closest(".wide")).map(each => each.outerHTML.slice(0, 80))"""
+SCROLLING = """[...document.querySelectorAll(".wide")].filter(each => each.scrollWidth > each.clientWidth).length"""
 ROWS = """[...document.querySelectorAll("h2")].find(each => each.textContent == %r).nextElementSibling.querySelectorAll("tr")"""
 TABLE = "[...%s].map(row => [...row.children].map(cell => cell.textContent))" % ROWS
 # Of an explanation, what it says and its clause.
@@ -98,6 +100,19 @@ class AnyMme(Browsed):
         self.assertEqual(self.looks("station"), NARROW)
         silent.close()
 
+    def test_tunnels(self):
+        """A gateway, and each phone's tunnel with its packets: all of it has room on a wide screen."""
+        running = self.running()
+        Gateway(self, running, {IMSI: COUNTED}, address="255.255.255.254", passed=[1 << 40] * 4)
+        running.until(lambda: self.shows("Gateways"))
+        for width in (WIDE, NARROW):
+            self.open(width)
+            self.assertEqual(self.browser.value(TABLE % "Tunnels")[1][3:], list(map(str, COUNTED)))
+            self.assertEqual(self.browser.value(TABLE % "Gateways")[1][4:8], [str(1 << 40)] * 4)
+            self.assertEqual(self.looks("tunnels"), width)
+            if width == WIDE:
+                self.assertEqual(self.browser.value(SCROLLING), 0)
+
     def test_nothing_yet(self):
         self.running(head=HEAD.splitlines()[0] + "\n")
         for width in (WIDE, NARROW):
@@ -168,8 +183,7 @@ class Run(Browsed):
             for octets in (vector.xres, vector.kasme, vector.autn):
                 self.assertNotIn(octets.hex(), page)
         self.assertEqual(self.looks("run"), WIDE)
-        self.assertEqual(self.browser.value("""[...document.querySelectorAll(".wide")].filter(each =>
-            each.scrollWidth > each.clientWidth).length"""), 0)
+        self.assertEqual(self.browser.value(SCROLLING), 0)
 
     def test_phone(self):
         """A click on a phone leads to its own messages, and back."""

@@ -19,9 +19,11 @@ import unittest.mock
 
 from tests.tools import tools
 from tools import runs
-from tools.fronting import saying
+from tools.fronting import limits as fronting_limits
+from tools.fronting import saying, traffic
 from tools.fronting.loop import Loop
-from tools.tunnels import asking, command, feed, gateway, given, gtpu, kept, limits, netlink, page, phones, sockets
+from tools.tunnels import (asking, command, contexts, counters, feed, gateway, given, gtpu, kept, limits, links, netlink, page, phones,
+                           sockets, telling)
 from tools.tunnels.contexts import Context
 from tools.tunnels.devices import Device, Devices
 
@@ -574,13 +576,96 @@ class Messages(unittest.TestCase):
         for sender in ("10.1.0.200", "10.1.1.1", "0.0.0.0", "255.255.255.255"):
             self.assertEqual(run(sender), 0)
 
-    def test_answers_of_the_kernel(self):
-        """Of one size, and with longer ones among them."""
-        plain = struct.pack("=IHHIIi16x", 36, 2, 0, 1, 0, -17)
-        done = struct.pack("=IHHIIi16x", 36, 2, 0, 2, 0, 0)
-        long = struct.pack("=IHHIIi52x", 72, 2, 0, 3, 0, -2)
-        self.assertEqual(netlink.errors_in(plain + done), [17, 0])
-        self.assertEqual(netlink.errors_in(plain + long + done), [17, 2, 0])
+
+class AskedOfKernel(unittest.TestCase):
+    """Requests to the kernel and its answers, as netlink(7) has them: it answers a request that fails, and one that asks for it."""
+
+    def setUp(self):
+        self.faults, self.writes, self.answers, self.reads = {}, [], [], 0
+        with unittest.mock.patch.object(netlink.socket, "socket", return_value=self):
+            self.netlink = netlink.Netlink(netlink.ROUTE)
+        self.message = self.netlink.message
+
+    # In the socket's place.
+
+    def setsockopt(self, *words):
+        pass
+
+    def bind(self, place):
+        pass
+
+    def send(self, octets):
+        """Takes requests that have their place among all as their body."""
+        at, self.writes = 0, [*self.writes, []]
+        while at < len(octets):
+            size, _, flags, number, _, place = struct.unpack_from("=IHHIII", octets, at)
+            self.writes[-1].append(flags)
+            if place in self.faults or flags & 4:
+                self.answers.append(struct.pack("=IHHIIi16x", 36, 2, 0x100, number, 0, -self.faults.get(place, 0)))
+            at += size
+
+    def recv(self, most):
+        self.reads += 1
+        if not self.answers:
+            raise BlockingIOError
+        return self.answers.pop(0)
+
+    def sent(self, count):
+        return self.netlink.send([self.message(24, struct.pack("=I", place)) for place in range(count)])
+
+    def test_faults(self):
+        """Each request is told its own; of 50 in a write one asks for an answer, so few are read."""
+        self.faults = {3: errno.EEXIST, 48: errno.ENODEV, 49: errno.EEXIST, 119: errno.ENOENT}
+        found = self.sent(120)
+        self.assertEqual({place: fault for place, fault in enumerate(found) if fault}, self.faults)
+        self.assertEqual(([len(flags) for flags in self.writes], len(found)), ([50, 50, 20], 120))
+        for flags in self.writes:
+            self.assertEqual(set(flags[:-1]) | {flags[-1] & ~4}, {1})
+        self.assertEqual(self.reads, 5)
+        self.faults = {}
+        self.assertEqual((self.sent(51), self.reads, self.answers), ([0] * 51, 7, []))
+        self.assertEqual(self.netlink.send([]), [])
+
+    def test_late(self):
+        """An answer to what was asked before is none to this."""
+        self.answers.append(struct.pack("=IHHIIi16x", 36, 2, 0, 99, 0, -errno.EPERM))
+        self.netlink.sequence = 200
+        self.assertEqual(self.sent(2), [0, 0])
+
+    def test_many(self):
+        """Numbers of requests begin again where no further one has room."""
+        self.netlink.sequence = (1 << 32) - 2
+        self.faults = {2: errno.EEXIST}
+        self.assertEqual(self.sent(4), [0, 0, errno.EEXIST, 0])
+
+    def test_no_answer(self):
+        with unittest.mock.patch.object(self, "send"), self.assertRaisesRegex(OSError, "the kernel hasn't answered for 20 s"):
+            self.sent(1)
+
+    def test_answers(self):
+        """Of one size, with longer ones among them, and others than answers."""
+        plain, done = (struct.pack("=IHHIIi16x", 36, 2, 0, number, 0, fault) for number, fault in ((1, -17), (2, 0)))
+        long, other = struct.pack("=IHHIIi52x", 72, 2, 0, 3, 0, -2), struct.pack("=IHHIIi", 20, 24, 0, 4, 0, -1)
+        self.assertEqual(netlink.answers_in(plain + long + other + done), [(1, 17), (3, 2), (2, 0)])
+
+    def test_octets(self):
+        """Requests by octets that were put together by hand from linux/gtp.h, linux/rtnetlink.h and linux/netfilter/ipset/ip_set.h,
+        as a processor has them that writes low octets first."""
+        asked = contexts.Contexts.__new__(contexts.Contexts)
+        asked.netlink, asked.family = self.netlink, 29
+        self.assertEqual(asked.made(Tunnels.CONTEXT).hex(" ", 4), (
+            "44000000 1d000102 01000000 00000000 00000000 08000100 0a000000 08000200 01000000 08000800 0100001a 08000400 0a010002 "
+            "08000500 0a2d0001 08000900 07000000"))
+        self.assertEqual(asked.taken(10, TEID).hex(" ", 4), (
+            "2c000000 1d000100 02000000 00000000 01000000 08000100 0a000000 08000200 01000000 08000800 0100001a"))
+        asked = links.Links.__new__(links.Links)
+        asked.netlink = self.netlink
+        self.assertEqual(asked.route(links.NEW_ROUTE, links.CREATE | links.EXCL, socket.inet_aton(IP), 32, 10).hex(" ", 4), (
+            "2c000000 18000106 03000000 00000000 02200000 fe47fd01 00000000 08000100 0a2d0001 08000400 0a000000"))
+        self.assertEqual(asked.route(links.DELETE_ROUTE, 0, socket.inet_aton("10.45.0.0"), 16, None).hex(" ", 4), (
+            "2c000000 19000100 04000000 00000000 02100000 fe470007 00000000 08000100 0a2d0000 08000600 00100000"))
+        self.assertEqual(counters.entry(258, socket.inet_aton(IP)).hex(" ", 4), (
+            "18000780 08000940 00000102 0c000180 08000140 0a2d0001"))
 
 
 class Front:
@@ -671,7 +756,7 @@ class Fed(unittest.TestCase):
                 self.assertIsNone(self.feed.socket)
 
 
-class Asked(unittest.TestCase):
+class AskedOfFront(unittest.TestCase):
     """What the front is asked."""
 
     def setUp(self):
@@ -725,6 +810,99 @@ class Asked(unittest.TestCase):
         os.unlink(self.front.path)
         self.asking.page(IMSI)
         self.assertEqual(len(self.asking.waiting), 0)
+
+
+class TellsFront(Case):
+    """What the gateway tells the front of its counters."""
+
+    def setUp(self):
+        super().setUp()
+        self.loop = Loop()
+        self.addCleanup(self.loop.close)
+        self.front = Front(self)
+        self.begin(**{OTHER: None})
+        self.kernel.counted = {"up": {socket.inet_aton(IP): (5, 500)}, "down": {socket.inet_aton(IP): (7, 700)}}
+        self.station(gtpu.packed(gtpu.PACKET, TEID, packet(IP)))
+        self.station(gtpu.packed(gtpu.PACKET, 99, packet(IP)))
+        self.devices.outside.send(packet(INTERNET, OTHER_IP))
+        self.gateway.look_at_idle()
+        self.telling = telling.Telling(self.loop, self.front.path, self.voice, self.gateway, page.Traffic(self.gateway))
+        self.addCleanup(self.telling.end, 0)
+        self.guest = self.front.accept()
+
+    def turn(self):
+        self.now += 0.05
+        timer = self.loop.after(0.05, lambda: None)
+        self.loop.turn()
+        timer.cancel()
+
+    def told(self):
+        """What it tells, as the front reads it."""
+        octets = self.guest.recv(1 << 18)
+        line, _, text = octets.partition(b"\n")
+        self.assertEqual(line, b"traffic %d" % len(text))
+        return traffic.read(text)
+
+    def asked(self, *imsis):
+        self.guest.sendall(" ".join(("wanted", *imsis)).encode() + b"\n")
+        self.turn()
+        return self.told()
+
+    def test_told(self):
+        """At first of all phones together, and then of those too that are wanted, as its own page has them."""
+        own, first = len(packet(IP)), self.told()
+        self.assertEqual(first, traffic.Told(
+            ADDRESS, "10.45.0.0/16", 1, 1, {"an idle phone": [1, own], "a tunnel": [0, 0]}, {"from stations": {"unknown TEID": 1}},
+            [6, 500 + own, 7, 700], {}))
+        idle = [0, 0, 0, 0, 0, 1]
+        self.assertEqual(self.asked(OTHER, "001010000000009").phones, {OTHER: idle})
+        self.assertEqual(self.asked("*").phones, {IMSI: [6, 500 + own, 7, 700, 0, 0], OTHER: idle})
+        self.kernel.counted = {"up": {}, "down": {}}
+        self.assertEqual(self.asked(IMSI).phones[IMSI][0], 6)  # the kernel was asked within this second
+        self.now += 1.1
+        self.assertEqual(self.asked(IMSI).phones, {IMSI: [1, own, 0, 0, 0, 0]})
+
+    def test_as_much_as_the_front_takes(self):
+        """Of more phones than the metrics have."""
+        many = [("%015d" % number, "10.45.%d.%d" % divmod(number, 256), ADDRESS, number) for number in range(1000, 3000)]
+        self.gateway.add(many)
+        self.kernel.counted["up"] = {socket.inet_aton(address): (1 << 50, 1 << 52) for _, address, _, _ in many}
+        self.now += 1.1
+        self.told()
+        self.guest.sendall(b"wanted *\n")
+        self.guest.setblocking(False)
+        self.telling.socket.setsockopt(socket.SOL_SOCKET, socket.SO_SNDBUF, 1 << 12)
+        octets = b""
+        while (end := octets.find(b"\n")) < 0 or len(octets) - end - 1 < int(octets[:end].split(b" ")[1]):
+            self.turn()
+            with contextlib.suppress(BlockingIOError):
+                octets += self.guest.recv(1 << 16)
+        self.assertLess(len(octets), fronting_limits.LONGEST_TRAFFIC)
+        self.assertEqual(len(traffic.read(octets[end + 1:]).phones), fronting_limits.MOST_METERED)
+
+    def test_front_gone(self):
+        """It tells the next one; one that doesn't know the word is left alone for a while, and that is said."""
+        self.told()
+        self.guest.close()
+        self.turn()
+        self.assertIsNone(self.telling.socket)
+        accepted = threading.Thread(target=self.front.accept)
+        accepted.start()
+        while accepted.is_alive():
+            self.turn()
+        self.guest = self.front.guests[-1]
+        self.told()
+        self.guest.sendall(b"fault no line begins with 'traffic'\nwanted %s\n" % IMSI.encode())
+        self.turn()
+        self.assertEqual(self.voice.said[-1], ("refused", "the front: fault no line begins with 'traffic'"))
+        self.assertIsNone(self.telling.socket)
+        self.assertEqual(self.guest.recv(1), b"")
+
+    def test_endless_line(self):
+        self.told()
+        self.guest.sendall(b"wanted " + b"1" * limits.LONGEST_WANTED)
+        self.turn()
+        self.assertIsNone(self.telling.socket)
 
 
 class Keeping(unittest.TestCase):

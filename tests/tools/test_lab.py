@@ -72,8 +72,11 @@ def blocks(text):
 
 
 def without_stations():
-    """The document without the parts that need a live station."""
-    return INTERNET.sub("", LIVE.sub("", DOCUMENT.read_text(encoding="utf-8")))
+    """The document without the parts that need a live station, but with the lines that a gateway hands out."""
+    def handed_out(found):
+        [block] = re.findall(r"(?m)^    mme-gateway --sims .*\n(?:    .*\n)*", found[0])
+        return "\n%s\n" % block
+    return INTERNET.sub(handed_out, LIVE.sub("", DOCUMENT.read_text(encoding="utf-8")))
 
 
 def answered(text):

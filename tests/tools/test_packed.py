@@ -14,9 +14,11 @@ from tests.tools.fronted import HEAD
 FOLDERS = "bench|crates|deploy|docs|examples|library|python|reference|tests|tools|[.]ci"
 NAMED = re.compile(r"(?<![\w/.@-])((?:%s)/[\w./@-]*|\./mme\b|[A-Z]+\.md\b|crates\.txt|VERSION\b)" % FOLDERS)
 PAGE = re.compile(r"\bmme(?:-\w+)?\(\d\)")
-WAYS = {"mme-capture": ["in", "out"], "mme-front": ["run", "ask", "fill"]}
-COMMANDS = [[name, *way] for name in ("mme", "mme-vectors", "mme-show", "mme-explain", "mme-chart", *WAYS)
-            for way in ([], *([one] for one in WAYS.get(name, ())))]
+README = (tools.TOP / "README.md").read_text()
+# The commands that it says are installed.
+NAMES = sorted(set(re.findall("`(mme(?:-\\w+)?)`", re.search("^## Install\n(.*?)^## ", README, re.M | re.S)[1])))
+WAYS = {"mme-capture": ["in", "out"], "mme-front": ["run", "ask", "fill"], "mme-vectors": ["serve"]}
+COMMANDS = [[name, *way] for name in NAMES for way in ([], *([one] for one in WAYS.get(name, ())))]
 WITHOUT_LIBRARY = "this package was made without %s; one with it is made in a clone: ./mme --library, then deploy/package FOLDER\n"
 
 
@@ -60,6 +62,16 @@ class Installed(unittest.TestCase):
         self.assertEqual({path.partition("/")[0] for path in (*self.tree.files, *self.tree.links)}, {"usr"})
         self.assertIn("usr/lib/systemd/system/soizkadur@.service", self.tree.files)
 
+    def test_commands(self):
+        """Those that README.md names, and no others: each with its completions, and with its version."""
+        commands = {path.removeprefix("usr/bin/") for path in self.tree.links if path.startswith("usr/bin/")}
+        self.assertEqual(sorted(commands), NAMES)
+        self.assertLessEqual({"mme-s6a", "mme-gateway", "mme-vectors"}, commands)
+        for name in NAMES:
+            self.assertTrue((self.folder / "usr/share/bash-completion/completions" / name).exists(), name)
+            if name != "mme":
+                self.assertEqual(self.ran(name, "--version"), (0, "%s %s\n" % (name, packed.PACKAGE.versions.number()), ""))
+
     def test_names_in_faults(self):
         """What a tool says on standard error begins with the name that it was called by, and names others as they are called."""
         nothing, keyless = self.folder / "nothing", self.folder / "keyless"
@@ -68,6 +80,7 @@ class Installed(unittest.TestCase):
         for words, said in ((("explain", nothing), told), (("chart", nothing), told), (("capture", "in", nothing), told),
                             (("show", nothing), "%r is neither a file nor octets in hex\n" % str(nothing)[:40]),
                             (("front", "run", nothing, nothing, "--tcp", "--port", "0"), told),
+                            (("gateway", "--sims", nothing, "--given", nothing, "192.0.2.1", "10.45.0.0/16"), told),
                             (("explain", keyless), "the trace is a log without keys, which `mme-front fill` puts back\n")):
             with self.subTest(words=words):
                 self.assertEqual(self.ran("mme-" + words[0], *words[1:]), (2, "", "mme-%s: %s" % (words[0], said)))
@@ -133,8 +146,7 @@ class Pages(unittest.TestCase):
 
     def test_documents(self):
         """Each file of the repository that a packed document names is packed, or among those that README.md says are a clone's."""
-        readme = (tools.TOP / "README.md").read_text()
-        told = re.findall("`([^`]+)`", re.search(r"Only a clone has (.*?)\. ", readme)[1]) + ["CHANGELOG.md"]
+        told = re.findall("`([^`]+)`", re.search(r"Only a clone has (.*?)\. ", README)[1]) + ["CHANGELOG.md"]
         for path in sorted(self.documents.rglob("*.md")):
             inside = path.relative_to(self.documents)
             for name in NAMED.findall(path.read_text()):

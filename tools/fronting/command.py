@@ -96,7 +96,8 @@ def question(given):
 def table(word, found):
     """What was told of a front, a line for each thing."""
     if word == "phones":
-        lines = ["%s %s vectors_left=%d" % (imsi, phone["states"], phone["vectors_left"]) for imsi, phone in found.items()]
+        lines = ["%s %s vectors_left=%d%s" % (imsi, phone["states"], phone["vectors_left"], "".join(
+            " tunnel_%s=%s" % end for end in phone.get("tunnel", {}).items())) for imsi, phone in found.items()]
     elif word == "stations":
         lines = [" ".join("%s=%s" % item for item in station.items()) for station in found]
     else:

@@ -8,7 +8,8 @@ from tools.fronting import limits, status
 from tools.fronting.guests import Door
 
 WORDS = {"data": 1, "cancel": 1, "show": 1, "give": 1, "stations": 0, "phones": 0, "counters": 0, "health": 0, "bearers": 0,
-         "tunnel": 1, "release": 3}
+         "tunnel": 1, "release": 3, "traffic": 1}
+LENGTHS = {b"give": limits.LONGEST_GIVEN, b"traffic": limits.LONGEST_TRAFFIC}  # octets that may follow such a line
 NOBODY = "refused %d: %s" % (runs.UNKNOWN_IMSI, runs.REFUSALS[runs.UNKNOWN_IMSI])
 
 
@@ -38,9 +39,9 @@ class Control:
 
     @staticmethod
     def length_of(line):
-        """How many octets follow a line `give`, or nothing for another line."""
+        """How many octets follow a line that has their number, or nothing for another line."""
         word, _, count = line.partition(b" ")
-        if word != b"give" or not count.isdigit() or len(count) > 9 or int(count) > limits.LONGEST_GIVEN:
+        if not count.isdigit() or len(count) > 9 or int(count) > LENGTHS.get(word, -1):
             return None
         return int(count)
 
@@ -60,8 +61,8 @@ class Control:
             word, fields = runs.fields_of(line, WORDS)
             if word in ("data", "cancel", "show"):
                 self.tell_mme(word, runs.imsi_of(fields[0]), reply)
-            elif word == "give":
-                self.give(text, reply)
+            elif word.encode() in LENGTHS:
+                self.take_text(guest, word, text, reply)
             elif word == "bearers":
                 self.front.followers.follow(guest)
             elif word in ("tunnel", "release"):
@@ -97,11 +98,14 @@ class Control:
             return "tunnel %s" % self.front.followers.words(slot)
         return self.front.followers.release(slot, *end)
 
-    def give(self, text, reply):
-        """Further subscribers and vectors."""
+    def take_text(self, guest, word, text, reply):
+        """A line with octets after it: further subscribers and vectors, or a gateway's counters."""
         if text is None:
-            raise runs.Fault("give has the number of octets that follow, up to %d" % limits.LONGEST_GIVEN)
-        self.front.give(text, reply)
+            raise runs.Fault("%s has the number of octets that follow, up to %d" % (word, LENGTHS[word.encode()]))
+        if word == "give":
+            self.front.give(text, reply)
+        else:
+            self.front.traffic.tell(guest, text, reply)
 
     def close(self):
         self.door.close()

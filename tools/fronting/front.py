@@ -27,6 +27,7 @@ from tools.fronting.soundness import Soundness
 from tools.fronting.stock import Stock
 from tools.fronting.syncing import LOST, Syncer, why_unsure
 from tools.fronting.teller import Teller
+from tools.fronting.traffic import Traffic
 from tools.fronting.used import vector_of
 
 from tools import runs
@@ -49,6 +50,7 @@ class Front:
         self.meters = Meters(keeps_messages=settings.page is not None)
         self.exchange = self.crowd = self.control = self.page = self.giving = self.stock = self.teller = self.followers = None
         self.aside, self.census, self.attaches, self.soundness = Aside(self), Census(self), Attaches(self), Soundness(self)
+        self.traffic = Traffic(self)
         self.is_over, self.is_busy = False, False
         self.resumed, self.given = 0, 0
         self.form = form_of(settings.log_keys, head)  # of the log, as it begins

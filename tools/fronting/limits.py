@@ -46,6 +46,8 @@ MOST_BROWSING, BROWSING_SECONDS, LONGEST_REQUEST = 32, 10, 8192  # connections f
 GUEST_RATE = 100  # connections a second of those who ask, at the control socket and for the page each
 ASIDE_SECONDS, ASIDE_REST = 0.005, 0.001  # after which a piece of work is done though messages wait, and until it is tried again
 FRESH_SECONDS = 1  # that states and pages are told again
+# Of what gateways tell: octets, letters of a name, reasons, and phones that the metrics have; and how long they are waited for.
+LONGEST_TRAFFIC, LONGEST_NAME, MOST_REASONS_TOLD, MOST_METERED, TRAFFIC_SECONDS = 1 << 18, 80, 100, 1000, 1
 # Of the reasons that the page has: the subscribers of whom they are found, and the vectors; the lines and octets that wait for
 # that, and how long a piece of it takes; how many are kept and how long a fact in one is; and after how many events all is
 # forgotten that is past but for so many lines of a phone.

@@ -3,8 +3,10 @@ import collections
 
 from tools import versions
 
-from tools.fronting import status
+from tools.fronting import limits, status
 from tools.fronting.meters import BOUNDS, OTHER, name_of
+
+PIECE = 100  # phones of a step
 
 
 class Text:
@@ -16,6 +18,10 @@ class Text:
     def add(self, name, kind, about, values):
         """A metric: its values by their labels."""
         self.lines += ["# HELP soizkadur_%s %s" % (name, about), "# TYPE soizkadur_%s %s" % (name, kind)]
+        self.add_values(name, values)
+
+    def add_values(self, name, values):
+        """Further values of the metric that was added last."""
         for labels, value in values:
             self.lines.append("soizkadur_%s%s %s" % (name, labelled(labels), number(value)))
 
@@ -57,8 +63,8 @@ def of_messages(meters):
              for (direction, name, cause), count in sorted(causes.items())])
 
 
-def text_of(front):
-    """All metrics; the states of the phones were asked for before."""
+def text_of(front, gateways):
+    """All metrics but those of each phone's packets; the states of the phones, and the gateways, were asked for before."""
     text, meters, exchange = Text(), front.meters, front.exchange
     stations = front.crowd.stations.values()
     set_up = sum(station.is_set_up for station in stations)
@@ -87,7 +93,8 @@ def text_of(front):
     text.add("batches_in_flight", "gauge", "Turns whose answers are due.", [({}, len(exchange.marks))])
     text.add_histogram("answer_seconds", "Time from a message to its answer.", BOUNDS, meters.buckets, meters.seconds)
     add_upkeep(text, front)
-    return text.octets()
+    add_gateways(text, gateways)
+    return text
 
 
 def add_upkeep(text, front):
@@ -110,3 +117,40 @@ def add_upkeep(text, front):
     text.add("start_seconds", "gauge", "When the front began, in seconds since 1970.", [({}, meters.begun)])
     text.add("resumed", "gauge", "Whether this run goes on after another one.", [({}, front.resumed)])
     text.add("changes_of_mme_total", "counter", "Times that further subscribers or vectors were given.", [({}, front.given)])
+
+
+def add_gateways(text, gateways):
+    """What gateways tell; but for their number nothing where there is none."""
+    text.add("gateways", "gauge", "Gateways that tell of phones' packets.", [({}, len(gateways))])
+    if not gateways:
+        return
+    named = [({"gateway": told.address}, told) for told in gateways]
+    text.add("tunnel_contexts", "gauge", "Phones that have a tunnel.", [(name, told.contexts) for name, told in named])
+    text.add("tunnel_stations", "gauge", "Stations that have a device.", [(name, told.stations) for name, told in named])
+    for at, what in enumerate(("packets", "octets")):
+        text.add("tunnel_waiting_%s" % what, "gauge", "%s that wait." % what.capitalize(),
+                 [({**name, "for": room}, numbers[at]) for name, told in named for room, numbers in told.waiting.items()])
+    text.add("tunnel_dropped_total", "counter", "Packets that went no further.",
+             [({**name, "way": way, "why": why}, count) for name, told in named for way, whys in told.dropped.items()
+              for why, count in whys.items()])
+    for at, what in enumerate(("packets", "octets")):
+        text.add("tunnel_%s_total" % what, "counter", "%s of phones." % what.capitalize(),
+                 [each for name, told in named for each in both_ways(name, told.passed, at)])
+
+
+def both_ways(labels, numbers, at):
+    """The packets or the octets from phones and to them."""
+    return [({**labels, "direction": way}, numbers[at + 2 * side]) for side, way in enumerate(("from", "to"))]
+
+
+def steps_of_phones(text, gateways, slots):
+    """Adds the packets and octets of each phone that gateways tell of, as many as may be, a piece in a step."""
+    rows = {imsi: numbers for told in gateways for imsi, numbers in told.phones.items() if imsi in slots}
+    rows = [({"imsi": imsi}, numbers) for imsi, numbers in rows.items()][:limits.MOST_METERED]
+    for at, what in enumerate(("packets", "octets")):
+        name = "tunnel_phone_%s_total" % what
+        if rows:
+            text.add(name, "counter", "%s of a phone, of %d phones at the most." % (what.capitalize(), limits.MOST_METERED), [])
+        for first in range(0, len(rows), PIECE):
+            yield
+            text.add_values(name, [each for row in rows[first:first + PIECE] for each in both_ways(*row, at)])

@@ -16,6 +16,7 @@ from tools.fronting.history import History
 from tools.fronting.keys import YES
 from tools.fronting.markup import linked, marked, phone, shown, table
 from tools.fronting.meters import RECENT
+from tools.fronting.traffic import ALL
 
 MINUTES = 5  # that the chart goes back
 MOST_PHONES = 100  # that the page lists
@@ -26,6 +27,10 @@ MOST_LAST = 120  # messages of which the page shows some; a phone's own has thos
 NO_PAGE = b"/, /metrics and /health; /?from=N for phones from that one on, /?imsi=N for one\n"
 UNSAID = "–"  # in the place of what isn't known
 OF_PHONE = "IMSI", "Address", "EMM", "ECM", "ESM", "Station", "Vectors left"
+# Where a gateway tells of the phones' packets: of each phone, and of each gateway.
+OF_TUNNEL = "IMSI", "Leads to", "TEID", "Packets from it", "Octets", "Packets to it", "Octets", "Dropped", "Waiting"
+OF_GATEWAY = ("Address", "Network", "Contexts", "Stations", "Packets up", "Octets up", "Packets down", "Octets down", "Dropped",
+              "Waiting")
 HELD = "The log can't be written: stations are refused and not heard until there is room."
 UNTOLD = "Reasons are missing here: %s. `tools/explain` finds them in the log."
 LATE = "%d lines are still to be read"
@@ -121,7 +126,34 @@ def phone_row(front, slot):
             marked("alarm", left) if left <= limits.FEW_VECTORS else left]
 
 
-def listed(front, first):
+def tunnel_row(front, slot, gateways):
+    """A phone's tunnel, and its packets as its gateway has them."""
+    imsi = front.head.imsis[slot]
+    counted = next((told.phones[imsi] for told in gateways if imsi in told.phones), [UNSAID] * (len(OF_TUNNEL) - 3))
+    return [phone(imsi), *(front.followers.bearers.tunnel(slot) or (UNSAID, UNSAID)), *counted]
+
+
+def of_tunnels(front, slots, gateways):
+    """The tunnels of phones; nothing where there is no gateway."""
+    rows = [tunnel_row(front, slot, gateways) for slot in slots]
+    return ["<h2>Tunnels</h2>", table(OF_TUNNEL, rows)] if gateways and rows else []
+
+
+def of_gateways(front, _):
+    """The gateways, and which packets they dropped and why; nothing where there is none."""
+    gateways = front.traffic.gateways
+    if not gateways:
+        return []
+    drops = [[told.address, way, why, count] for told in gateways
+             for way, whys in told.dropped.items() for why, count in whys.items()]
+    rows = [[told.address, told.network, told.contexts, told.stations, *told.passed,
+             sum(sum(whys.values()) for whys in told.dropped.values()), sum(count for count, _ in told.waiting.values())]
+            for told in gateways]
+    return ["<h2>Gateways</h2>", table(OF_GATEWAY, rows),
+            *(["<h2>Dropped packets</h2>", table(("Gateway", "Way", "Why", "Packets"), drops)] if drops else [])]
+
+
+def listed(front, first, gateways):
     """The page's phones from one on, and where there are more of them."""
     imsis = front.head.imsis
     slots = range(first, min(first + MOST_PHONES, len(imsis)))
@@ -131,15 +163,17 @@ def listed(front, first):
     return [
         "<h2>Phones</h2>", table(OF_PHONE, rows) if rows else '<p class="none">Nobody is provisioned.</p>',
         '<p class="note">%d to %d of %d · %s</p>' % (first + 1, slots.stop, len(imsis), " · ".join(links)) if links else "",
+        *of_tunnels(front, slots, gateways),
     ]
 
 
-def of_phone(front, slot, history):
+def of_phone(front, slot, history, gateways):
     """A phone's own page, below the alarms."""
     imsi = front.head.imsis[slot]
     entries = ladder.entries_of(history.rows, front.teller, front.head.imsis, lambda when, name: name == imsi)
     return ["<h2>Phone %s</h2>" % shown(imsi), '<p class="note">%s</p>' % linked("/", "all stations and phones"),
-            table(OF_PHONE, [phone_row(front, slot)]), "<h2>Its last messages</h2>", *charted(front, entries)]
+            table(OF_PHONE, [phone_row(front, slot)]), *of_tunnels(front, [slot], gateways),
+            "<h2>Its last messages</h2>", *charted(front, entries)]
 
 
 def of_messages(front, history):
@@ -157,7 +191,7 @@ def charted(front, entries):
             '<p class="note">%s</p>' % shown(versions.as_called(UNTOLD % why)) if why else ""]
 
 
-FRAME = of_stations, of_messages, of_log  # what all lists of phones have around them
+FRAME = of_stations, of_messages, of_gateways, of_log  # what all lists of phones have around them
 
 
 def whole(parts):
@@ -263,10 +297,16 @@ class Page:
         waiting = self.waiting.setdefault(what, [])
         waiting.append((guest, is_head))
         if len(waiting) == 1:
-            end = len(self.front.head.imsis)
-            first, end = (0, end) if what == METRICS else (what.first, min(what.first + what.most, end))
-            self.front.census.want(first, end, limits.FRESH_SECONDS, lambda: self.is_wanted(what),
-                                   lambda: self.front.aside.do(lambda: self.make(what, self.steps_of(what))))
+            self.ask(what)
+
+    def ask(self, what):
+        """Has the MME and the gateways be asked for what is to be told, and then has it be made."""
+        imsis, end = self.front.head.imsis, len(self.front.head.imsis)
+        first, end = (0, end) if what == METRICS else (what.first, min(what.first + what.most, end))
+        named = ALL if what == METRICS else imsis[first:end]
+        make = lambda gateways: self.front.aside.do(lambda: self.make(what, self.steps_of(what, gateways)))
+        self.front.census.want(first, end, limits.FRESH_SECONDS, lambda: self.is_wanted(what),
+                               lambda: self.front.traffic.want(named, lambda: self.is_wanted(what), make))
 
     def is_wanted(self, what):
         """Whether somebody waits for it still."""
@@ -286,24 +326,27 @@ class Page:
             self.made[what] = now, octets
             self.say(what, self.waiting.pop(what))
 
-    def steps_of(self, what):
+    def steps_of(self, what, gateways):
         """The steps to what is asked for: nothing for each but the last, which has the octets."""
         front = self.front
         if what == METRICS:
-            yield metrics.text_of(front)
+            text = metrics.text_of(front, gateways)
+            for _ in metrics.steps_of_phones(text, gateways, front.head.slots):
+                yield None
+            yield text.octets()
             return
         if what.is_phone:
             until = front.meters.messages
             while self.all.read_on(until):
                 yield None
-            yield whole(above(front) + of_phone(front, what.first, self.all))
+            yield whole(above(front) + of_phone(front, what.first, self.all, gateways))
             return
         while not self.frame or time.monotonic() - self.framed > limits.FRESH_SECONDS:
             self.framing = self.framing or self.steps_of_frame()
             next(self.framing)
             yield None
-        before, messages, log = self.frame
-        yield whole([*before, *messages, *listed(front, what.first), *log])
+        before, messages, tunnels, log = self.frame
+        yield whole([*before, *messages, *listed(front, what.first, gateways), *tunnels, *log])
 
     def steps_of_frame(self):
         """The steps to what all lists of phones have around them, which are gone once for all who wait."""

@@ -17,9 +17,15 @@ def stations(front):
              "octets_waiting": station.link.size} for number, station in sorted(front.crowd.stations.items())]
 
 
+def phone(front, slot):
+    """A phone: its states, the vectors that it has left, and where its tunnel leads to, if it has one."""
+    told, tunnel = {"states": front.census.of(slot), "vectors_left": front.stock.left(slot)}, front.followers.bearers.tunnel(slot)
+    return {**told, "tunnel": dict(zip(("address", "teid"), tunnel))} if tunnel else told
+
+
 def phones(front, is_wanted, done):
-    """Calls `done` with an object of JSON that has each phone by its IMSI: its states from now on, and the vectors that it has
-    left. It is made piece by piece, beside the stations' messages."""
+    """Calls `done` with an object of JSON that has each phone by its IMSI, its states from now on. It is made piece by piece, beside
+    the stations' messages."""
     count, pieces = len(front.head.imsis), []
 
     def piece():
@@ -27,8 +33,8 @@ def phones(front, is_wanted, done):
         if not is_wanted():
             return
         if first < count or not pieces:
-            pieces.append(json.dumps({front.head.imsis[slot]: {"states": front.census.of(slot), "vectors_left": front.stock.left(slot)}
-                                      for slot in range(first, min(first + PIECE, count))})[1:-1])
+            slots = range(first, min(first + PIECE, count))
+            pieces.append(json.dumps({front.head.imsis[slot]: phone(front, slot) for slot in slots})[1:-1])
             front.aside.do(piece)
         else:
             done("{%s}" % ", ".join(pieces))

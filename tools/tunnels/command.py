@@ -23,9 +23,10 @@ from tools.tunnels.feed import Feed
 from tools.tunnels.gateway import Gateway
 from tools.tunnels.kept import Kept
 from tools.tunnels.netlink import Refused
-from tools.tunnels.page import Page
+from tools.tunnels.page import Page, Traffic
 from tools.tunnels.phones import Phones
 from tools.tunnels.sockets import PORT
+from tools.tunnels.telling import Telling
 
 USAGE = "%(prog)s [--page ADDRESS:PORT] CONTROL ADDRESS PREFIX\n       %(prog)s --sims LIST --given FILE ADDRESS PREFIX"
 LONGEST_NAME = 8  # letters of a name, so that all names of devices have room
@@ -97,7 +98,7 @@ class Run:
     def __init__(self, words, voice):
         self.words, self.voice, self.loop, self.manager = words, voice, Loop(), Manager(os.environ)
         self.control, self.address, self.network = words.words[0], *words.parsed
-        self.is_over, self.gateway, self.asking = False, None, None
+        self.is_over, self.gateway, self.asking, self.traffic = False, None, None, None
 
     def watch(self, sock):
         """Has a socket be looked at once something comes."""
@@ -117,8 +118,9 @@ class Run:
             raise failed("%s port %d" % (self.address, PORT) if fault.filename is None else fault.filename, fault) from None
         self.asking = self.gateway.asking = Asking(self.loop, self.control, self.voice, self.gateway.hear_states)
         self.gateway.when_known = lambda: self.loop.watch(devices.idle, select.EPOLLIN, lambda events: self.gateway.look_at_idle())
+        self.traffic = Traffic(self.gateway)
         if listener is not None:
-            Page(self.gateway, self.loop, listener, self.words.page_host)
+            Page(self.gateway, self.loop, listener, self.words.page_host, self.traffic)
 
     def handle_signals(self):
         reading, writing = os.pipe()
@@ -156,6 +158,7 @@ class Run:
             self.say_forwarding()
             try:
                 Feed(self.loop, self.control, self.voice, self.gateway)
+                Telling(self.loop, self.control, self.voice, self.gateway, self.traffic)
                 while not self.is_over:
                     self.loop.turn()
                 self.manager.tell(STOPPING=1)

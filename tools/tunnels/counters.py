@@ -4,8 +4,8 @@ import errno
 import socket
 import struct
 
-from tools.tunnels.netlink import ACK, CREATE, DUMP, EXCL, NETFILTER, ROUTE, Netlink, Refused, attribute, attributes, each_attribute
-from tools.tunnels.netlink import nested, text
+from tools.tunnels.netlink import ACK, CREATE, DUMP, EXCL, NESTED, NETFILTER, ROUTE, Netlink, Refused, attribute, attributes
+from tools.tunnels.netlink import each_attribute, nested, text
 
 SUBSYSTEM, PROTOCOL_VERSION, REVISION = 6, 7, 4  # linux/netfilter/ipset/ip_set.h
 MAKE, DESTROY, LIST, ADD, DELETE, INDEX_OF = 2, 3, 7, 9, 10, 14
@@ -20,6 +20,7 @@ IP_PACKETS, FIRST_RULE = 0x0800, 1 << 16
 IN_SET, BY_SOURCE, BY_DESTINATION = 8, 2, 0  # linux/pkt_cls.h, linux/netfilter/ipset/ip_set.h
 MOST_PHONES = 1 << 16
 PIECE = 500  # phones of a message
+ENTRY = struct.Struct("=HHHHIHHHH4s")  # one of them
 UP, DOWN = "up", "down"
 
 
@@ -27,8 +28,10 @@ def big(kind, value):
     return attribute(kind | IN_ORDER, struct.pack(">I", value))
 
 
-def address(octets):
-    return nested(IP, attribute(IPV4 | IN_ORDER, octets))
+def entry(line, octets):
+    """A phone's address as a request has it, with its place there."""
+    return ENTRY.pack(ENTRY.size, DATA | NESTED, 8, LINE | IN_ORDER, socket.htonl(line),
+                      12, IP | NESTED, 8, IPV4 | IN_ORDER, octets)
 
 
 class Counters:
@@ -44,7 +47,7 @@ class Counters:
 
     def ask(self, kind, *parts, flags=0):
         """What one request fails for, or 0."""
-        [number] = self.netlink.send([self.netlink.message(SUBSYSTEM << 8 | kind, self.body(*parts), ACK | flags)])
+        [number] = self.netlink.send([self.netlink.message(SUBSYSTEM << 8 | kind, self.body(*parts), flags)])
         return number
 
     def begin(self):
@@ -70,14 +73,11 @@ class Counters:
                            rule + text(KIND, "basic") + nested(OPTIONS, tree), CREATE | EXCL)
 
     def put(self, kind, addresses):
+        pieces = [nested(ENTRIES, *map(entry, range(1, PIECE + 1), addresses[at:at + PIECE]))
+                  for at in range(0, len(addresses), PIECE)]
         for name in self.names.values():
-            messages = []
-            for at in range(0, len(addresses), PIECE):
-                part = enumerate(addresses[at:at + PIECE], 1)
-                entries = nested(ENTRIES, *(nested(DATA, big(LINE, line), address(octets)) for line, octets in part))
-                body = self.body(text(NAME, name), big(LINE, 0), entries)
-                messages.append(self.netlink.message(SUBSYSTEM << 8 | kind, body, ACK))
-            for number in self.netlink.send(messages):
+            for number in self.netlink.send([self.netlink.message(
+                    SUBSYSTEM << 8 | kind, self.body(text(NAME, name), big(LINE, 0), piece)) for piece in pieces]):
                 if number:
                     raise Refused("phones in the set %s" % name, number)
 

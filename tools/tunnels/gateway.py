@@ -119,14 +119,15 @@ class Gateway:
 
     def devices_for(self, changes):
         """The devices of the stations that tunnels come at, by phone."""
-        devices, taken = {}, set()
+        devices, found = {}, {}  # the latter by station
         for phone, tunnel in changes.items():
             if tunnel is None:
                 continue
-            device, why = self.device_for(tunnel.station, taken)
+            device = found.get(tunnel.station)
+            if device is None:
+                device, why = self.device_for(tunnel.station, found.values())
             if device is not None:
-                devices[phone] = device
-                taken.add(device)
+                devices[phone] = found[tunnel.station] = device
             else:
                 self.voice.say("no_device", "%s has no tunnel: %s" % (phone.imsi, why))
                 self.counts["tunnels refused"] += 1
@@ -167,9 +168,10 @@ class Gateway:
             self.send_end_marker(tunnel)
         before = {phone: phone.tunnel.station for phone, _, _ in made if phone in moves}
         self.report("a context", self.devices.contexts.delete([(index, teid) for _, index, teid in old]), True)
+        now = time.monotonic()
         for phone, tunnel, device in made:
             self.set_tunnel(phone, tunnel, device)
-            phone.before, phone.moved = before.get(phone), time.monotonic()
+            phone.before, phone.moved = before.get(phone), now
             self.flush(phone)
         routes = [(phone.packed, HOST, device.index) for phone, _, device in made if phone not in moves]
         self.report("a route", self.devices.links.add(routes))
@@ -185,8 +187,8 @@ class Gateway:
 
     def report(self, what, faults, may_be_gone=False):
         """Counts and says what the kernel refused."""
-        for fault in faults:
-            if fault and not (may_be_gone and is_missing(fault)):
+        for fault in filter(None, faults):
+            if not (may_be_gone and is_missing(fault)):
                 self.counts["refused by the kernel"] += 1
                 self.voice.say("kernel", "the kernel refuses %s: %s" % (what, os.strerror(fault)))
 

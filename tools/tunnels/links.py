@@ -5,8 +5,8 @@ import os
 import socket
 import struct
 
-from tools.tunnels.netlink import (ACK, CREATE, EXCL, REPLACE, ROUTE, Netlink, Refused, attribute, attributes, is_missing, nested,
-                                   text)
+from tools.tunnels.netlink import CREATE, EXCL, HEADER, REPLACE, REQUEST, ROUTE, Netlink, Refused, attribute, attributes, is_missing
+from tools.tunnels.netlink import nested, text
 
 NEW_LINK, DELETE_LINK, NEW_ROUTE, DELETE_ROUTE, GET_ROUTES = 16, 17, 24, 25, 26
 NAME, MTU, LINK_INFO, INFO_KIND, INFO_DATA = 3, 4, 18, 1, 2  # attributes of a link (linux/if_link.h)
@@ -17,8 +17,9 @@ LAST_RESORT = 4096  # the metric of what holds where no device is there
 UP = 1
 SET_TUN, TUN, NO_INFORMATION = 0x400454CA, 1, 0x1000  # linux/if_tun.h
 DEVICE_OF_TUNS = "/dev/net/tun"
-# What a request has of a route: what it leads to, its network, and its device or its metric.
-ROUTE_TO = struct.Struct("=BBBBBBBBIHH4sHHI")
+IPV4, NOWHERE = int(socket.AF_INET), (ANYWHERE, UNREACHABLE, PRIORITY, LAST_RESORT)
+# A request about a route whole: what it leads to, its network, and its device or its metric.
+ROUTE_TO = struct.Struct(HEADER.format + "BBBBBBBBIHH4sHHI")
 HASH_SIZE = 1 << 12  # lists that a device's contexts are in
 LONGEST_PACKET = 1500 - 20 - 8 - 8  # octets of a phone's packet, which has headers of IP, UDP and GTP-U before it on its way
 HOST = 32  # bits of a network that is one address
@@ -78,11 +79,9 @@ class Links:
 
     def route(self, kind, flags, network, length, index):
         """A request about the route to a network that has so many bits: to a device, or nowhere."""
-        scope, way, last, number = (ANYWHERE, UNREACHABLE, PRIORITY, LAST_RESORT) if index is None else (
-            ON_LINK, UNICAST, DEVICE, index)
-        attributes_of = 8, DESTINATION, network, 8, last, number
-        body = ROUTE_TO.pack(socket.AF_INET, length, 0, 0, MAIN, OWN_PROTOCOL, scope, way, 0, *attributes_of)
-        return self.netlink.message(kind, body, ACK | flags)
+        scope, way, last, number = NOWHERE if index is None else (ON_LINK, UNICAST, DEVICE, index)
+        return ROUTE_TO.pack(ROUTE_TO.size, kind, REQUEST | flags, self.netlink.number(), 0, IPV4, length, 0, 0, MAIN, OWN_PROTOCOL,
+                             scope, way, 0, 8, DESTINATION, network, 8, last, number)
 
     def add(self, routes):
         """Adds routes, each of a network, its length, and a device or nothing; the errors in their order."""

@@ -8,12 +8,13 @@ ROUTE, NETFILTER, GENERIC = 0, 12, 16  # the families of netlink
 REQUEST, ACK, DUMP = 1, 4, 0x300
 CREATE, EXCL, REPLACE = 0x400, 0x200, 0x100
 ERROR, DONE = 2, 3  # types of messages
-HEADER = struct.Struct("=IHHII")
-ANSWER = struct.Struct("=IH10xi16x")  # a message that says whether a request failed
+HEADER = struct.Struct("=IHHII")  # of a message: its octets, its type, its flags, its number, and none
+FLAGS, FLAGS_AT = struct.Struct("=H"), 6
+ANSWER = struct.Struct("=IHxxI4xi")  # how a message begins that says whether a request failed, which has the same number
 NESTED = 0x8000
 KIND = 0x3FFF  # of an attribute's type, without its flags
 SOL_NETLINK, CAP_ACK = 270, 10  # an answer leaves out what it is to
-ROOM, PIECE = 1 << 22, 1 << 18  # octets of answers that may wait, and of one read
+ROOM, PIECE, ANSWERS = 1 << 22, 1 << 18, 1 << 12  # octets of answers that may wait, of a read of a dump, and of one of answers
 TOGETHER, TOGETHER_OCTETS = 50, 1 << 15  # messages of a write, and about how many octets
 SECONDS = 20  # for the kernel to answer
 
@@ -66,13 +67,20 @@ def messages_in(octets):
     return found
 
 
-def errors_in(octets):
-    """The numbers of the errors that the answers of one read have, 0 for none. Most are of one size, which is quicker."""
-    if not len(octets) % ANSWER.size:
-        answers = list(ANSWER.iter_unpack(octets))
-        if all(size == ANSWER.size for size, _, _ in answers):
-            return [-number for _, kind, number in answers if kind == ERROR]
-    return [number for kind, number, _ in messages_in(octets) if kind == ERROR]
+def answers_in(octets):
+    """What the answers of one read say: each the number of its request, and that of an error, 0 for none."""
+    at, found = 0, []
+    while at + ANSWER.size <= len(octets):
+        size, kind, sequence, number = ANSWER.unpack_from(octets, at)
+        if kind == ERROR:
+            found.append((sequence, -number))
+        at += max(size, HEADER.size) + 3 & ~3
+    return found
+
+
+def number_of(message):
+    """The number of a message, which its answer has too."""
+    return HEADER.unpack_from(message)[3]
 
 
 class Netlink:
@@ -81,18 +89,22 @@ class Netlink:
     def __init__(self, family):
         self.socket = socket.socket(socket.AF_NETLINK, socket.SOCK_RAW, family)
         self.socket.setsockopt(socket.SOL_SOCKET, socket.SO_RCVBUF, ROOM)
+        self.socket.setsockopt(socket.SOL_SOCKET, socket.SO_RCVTIMEO, struct.pack("@ll", SECONDS, 0))  # without a poll(2) for it
         self.socket.setsockopt(SOL_NETLINK, CAP_ACK, 1)
-        self.socket.settimeout(SECONDS)
         self.socket.bind((0, 0))
         self.sequence = 0
 
-    def message(self, kind, body, flags=ACK):
+    def number(self):
+        """The number of the next message."""
+        self.sequence = self.sequence + 1 & 0xFFFFFFFF
+        return self.sequence
+
+    def message(self, kind, body, flags=0):
         """A request that is to be sent."""
-        self.sequence += 1
-        return HEADER.pack(HEADER.size + len(body), kind, REQUEST | flags, self.sequence, 0) + body
+        return HEADER.pack(HEADER.size + len(body), kind, REQUEST | flags, self.number(), 0) + body
 
     def send(self, messages):
-        """Sends requests, some together, each of which is answered; what each failed for, 0 where it didn't."""
+        """Sends requests, some together; what each failed for, 0 where it didn't."""
         found, part, size = [], [], 0
         for message in messages:
             part.append(message)
@@ -103,20 +115,27 @@ class Netlink:
         return found + self.write(part) if part else found
 
     def write(self, part):
-        """Sends requests by one write; what each failed for."""
-        self.socket.send(b"".join(part))
-        return self.answers(len(part))
+        """Sends requests by one write; what each failed for. The kernel does them in their order, and answers those that fail, and
+        the last one, which asks for that: so all is told once it is answered."""
+        octets, last = bytearray(b"".join(part)), part[-1]
+        [flags] = FLAGS.unpack_from(last, FLAGS_AT)
+        FLAGS.pack_into(octets, len(octets) - len(last) + FLAGS_AT, flags | ACK)
+        self.socket.send(octets)
+        failed, end = {}, number_of(last)
+        while end not in failed:
+            failed.update(answers_in(self.receive(ANSWERS)))
+        return [failed.get(number_of(message), 0) for message in part] if any(failed.values()) else [0] * len(part)
 
-    def answers(self, count):
-        """So many answers: the numbers of their errors."""
-        found = []
-        while len(found) < count:
-            found += errors_in(self.socket.recv(PIECE))
-        return found
+    def receive(self, most):
+        """The next of what the kernel answers."""
+        try:
+            return self.socket.recv(most)
+        except BlockingIOError:
+            raise TimeoutError("the kernel hasn't answered for %d s" % SECONDS) from None
 
     def ask(self, what, kind, body, flags=0):
         """Sends one request; what can't be done is refused by these words."""
-        [number] = self.send([self.message(kind, body, ACK | flags)])
+        [number] = self.send([self.message(kind, body, flags)])
         if number:
             raise Refused(what, number)
 
@@ -125,7 +144,7 @@ class Netlink:
         self.socket.send(self.message(kind, body, flags))
         found, is_over = [], False
         while not is_over:
-            for other, number, octets in messages_in(self.socket.recv(PIECE)):
+            for other, number, octets in messages_in(self.receive(PIECE)):
                 if other == ERROR and number:
                     raise Refused(what, number)
                 is_over = is_over or other in (ERROR, DONE)

@@ -38,6 +38,11 @@ class Traffic:
             found += [kernels + mine for kernels, mine in zip(self.counted[way].get(phone.packed, NO_TRAFFIC), own)]
         return found
 
+    def sums(self):
+        """The same of all phones."""
+        found = [self.of(phone) for phone in self.gateway.phones.by_imsi.values()]
+        return [sum(numbers) for numbers in zip(*found)] or [0, 0, 0, 0]
+
 
 def metrics(gateway, traffic):
     """All metrics."""
@@ -54,8 +59,7 @@ def metrics(gateway, traffic):
     text.add("gateway_events_total", "counter", "What the gateway did.",
              [({"what": what}, count) for what, count in sorted(gateway.counts.items())])
     found = [(phone, traffic.of(phone)) for phone in phones]
-    sums = [sum(numbers) for numbers in zip(*(numbers for _, numbers in found))] or [0, 0, 0, 0]
-    add_traffic(text, "gateway", "of phones", [({}, sums)])
+    add_traffic(text, "gateway", "of phones", [({}, traffic.sums())])
     metered = [({"imsi": phone.imsi}, numbers) for phone, numbers in found if any(numbers)][:limits.MOST_METERED]
     add_traffic(text, "gateway_phone", "of a phone, of %d phones at the most" % limits.MOST_METERED, metered)
     return text.octets()
@@ -101,8 +105,9 @@ def page(gateway, traffic, shown_phones, first):
 class Page:
     """Answers GET of /metrics, of / and of /health."""
 
-    def __init__(self, gateway, loop, listener, names=()):
-        self.gateway, self.traffic, self.names = gateway, Traffic(gateway), {LOCAL, *(name.lower() for name in names)}
+    def __init__(self, gateway, loop, listener, names=(), traffic=None):
+        self.gateway, self.traffic = gateway, traffic or Traffic(gateway)
+        self.names = {LOCAL, *(name.lower() for name in names)}
         self.door = Door(loop, listener, guest_limits.MOST_BROWSING, guest_limits.LONGEST_REQUEST, guest_limits.BROWSING_SECONDS,
                          self.take)
 

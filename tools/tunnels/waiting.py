@@ -27,7 +27,9 @@ class Waiting:
 
     def take(self, phone):
         """The packets of a phone, with their senders; none waits any more."""
-        waiting = self.of.pop(phone, ())
+        waiting = self.of.pop(phone, None)
+        if waiting is None:
+            return ()
         self.octets -= sum(len(packet) for _, packet, _ in waiting)
         return [(packet, sender) for _, packet, sender in waiting]
 
