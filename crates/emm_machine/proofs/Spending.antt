@@ -1,5 +1,5 @@
 -- Of the vectors of a state those are spent that it asks for no more.
-use Rattle.std.proofs.Common.{◌≡◌, ◌⊎◌, ◌↔◌, ap, sym, subst, ◌∙◌, true, ℕ, ◌+◌, ◌-◌, ◌≤◌, ◌^◌, List, [], ◌∷◌, ◌++◌, length, arith}
+use Rattle.std.proofs.Common.{◌≡◌, refl, ◌⊎◌, ◌↔◌, ap, sym, subst, ◌∙◌, true, ℕ, ◌+◌, ◌-◌, ◌≤◌, ◌^◌, List, [], ◌∷◌, ◌++◌, length, arith}
 use Rattle.std.specs.Prelude.{min, max, nat_le, ◌||◌}
 use Rattle.std.proofs.lemmas.Bool.{le-leb, leb-true}
 use Rattle.std.proofs.lemmas.Bool.Decides.{Decides-or}
@@ -10,6 +10,7 @@ use Rattle.emm_state.specs.declared.solo.Solo.{Solo}
 use Rattle.emm_state.specs.Taking.{IsOnward, vectors_spent}
 use Rattle.emm_machine.specs.Forgetting.{AreSpentFor}
 use Rattle.emm_machine.specs.Given.{is_stocked}
+use Rattle.emm_machine.specs.Words.{fresh_solo}
 use Rattle.emm_machine.specs.SubscriberView.{SubscriberView}
 
 least : (s n l : ℕ) → s ≡ min n l → s ≤ n
@@ -64,3 +65,12 @@ pub is_full : (v : KeptView) (w : SubscriberView) → AreSpentFor w.setting.vect
 is_full v w h =
     subst (λ (vs : List Vector). ((64 ≤ length vs - v.spent) ⊎ (2 ^ 62 ≤ length vs)) ↔ (is_stocked w ≡ true)) (sym h.given)
     (either (length w.setting.vectors) (vectors_spent w.solo) v.spent h.spent)
+
+-- ---- nobody is here
+
+all_spent : (s l : ℕ) → s ≤ l → s ≡ min s l
+all_spent s l le = omega (arith, le)
+
+-- as many as are taken
+pub are_spent_at_rest : (v : KeptView) → v.spent ≤ length v.given → AreSpentFor v.given (record fresh_solo { next_vector = v.spent }) v
+are_spent_at_rest v le = record { given = refl; spent = all_spent v.spent (length v.given) le }

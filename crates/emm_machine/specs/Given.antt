@@ -1,13 +1,17 @@
 -- A subscriber who is given one vector more.
-use Rattle.std.specs.Prelude.{ℕ, ◌-◌, ◌^◌, ◌||◌, ◌++◌, ◌∷◌, [], Bool, length, nat_le}
+use Rattle.std.specs.Prelude.{ℕ, ◌-◌, ◌^◌, ◌||◌, List, ◌++◌, ◌∷◌, [], Bool, length, nat_le}
 use Rattle.identity_slots.specs.declared.profile.Vector.{Vector}
 use Rattle.emm_state.specs.declared.setting.Setting.{Setting}
 use Rattle.emm_state.specs.Taking.{vectors_spent}
 use Rattle.emm_machine.specs.SubscriberView.{SubscriberView}
 
+-- with other vectors
+abbrev pub having : List Vector → Setting → Setting
+having vs s = record { network = s.network; slot = s.slot; profile = s.profile; vectors = vs }
+
 -- one vector more, at the end
 abbrev pub giving : Vector → Setting → Setting
-giving v s = record { network = s.network; slot = s.slot; profile = s.profile; vectors = s.vectors ++ v ∷ [] }
+giving v s = having (s.vectors ++ v ∷ []) s
 
 abbrev pub with_given : Vector → SubscriberView → SubscriberView
 with_given v w = record { setting = giving v w.setting; solo = w.solo }

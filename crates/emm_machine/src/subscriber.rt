@@ -1,6 +1,6 @@
 //! One subscriber.
 
-ghost use Rattle.std.specs.Prelude.{◌≡◌, ◌≢◌, ◌↔◌, Err, IfErr, IfOk, OnErr, OnOk, is_some, length, true};
+ghost use Rattle.std.specs.Prelude.{◌≡◌, ◌≢◌, ◌↔◌, ◌≤◌, Err, IfErr, IfOk, OnErr, OnOk, is_some, length, min, option_map, slice_get, true};
 ghost use Rattle.emm_state.specs.Does.{Does};
 ghost use Rattle.mme_types.specs.Events.{Message, item_of, message_lists};
 ghost use Rattle.identity_slots.specs.Spending.{HasFrom};
@@ -71,8 +71,9 @@ fn emm_of(phase: Phase) -> EmmState
     }
 }
 
-fn fresh_solo() -> Solo
-    ensures { result ≡ fresh_solo }
+// Nobody was ever here, and so many vectors are taken.
+fn solo_at_rest(next_vector: usize) -> Solo
+    ensures { result ≡ record fresh_solo { next_vector = next_vector } }
 {
     Solo {
         phase: Phase::Deregistered,
@@ -81,7 +82,7 @@ fn fresh_solo() -> Solo
         associations: Counter::new(),
         tmsis: Counter::new(),
         tmsi: None,
-        next_vector: 0,
+        next_vector,
         tai: Tai {
             plmn: Octets::new([0; 3]),
             tac: Octets::new([0; 2]),
@@ -233,19 +234,66 @@ impl Subscriber {
           solo = fresh_solo;
         }) }
     {
-        let vectors = vectors.into_kept();
+        Subscriber::at_rest(alloc, network, slot, profile, vectors.into_kept())
+    }
+
+    /// A subscriber whose phone isn't here and has no context, with its vectors, of which those are taken that are spent.
+    #[tactic(auto, using(crate::proofs::Spending::are_spent_at_rest))]
+    pub fn at_rest(
+        alloc: Global,
+        network: &SharedNetwork,
+        slot: Slot,
+        profile: &Profile,
+        vectors: KeptVectors,
+    ) -> Result<Subscriber, AllocError>
+        ensures { IfOk result (λ s. s ≡ record {
+          setting = record { network = network.now; slot = slot; profile = profile.now; vectors = vectors.given };
+          solo = record fresh_solo { next_vector = vectors.spent };
+        }) }
+    {
         let setting = Setting {
             network: network.clone()?,
             slot,
             profile: *profile,
             vectors: vectors.given(),
         };
+        let solo = solo_at_rest(vectors.spent());
         Ok(Subscriber {
             setting,
             vectors,
-            state: Draft::of(alloc, fresh_solo())?,
+            state: Draft::of(alloc, solo)?,
             alloc,
         })
+    }
+
+    /// What no step changes of it.
+    pub fn setting(&self) -> &Setting
+        ensures { result.now ≡ self.entry.now.setting }
+    {
+        &self.setting
+    }
+
+    /// Its state.
+    pub fn solo(&self) -> &Solo
+        ensures { result.now ≡ self.entry.now.solo }
+    {
+        &self.state.solo
+    }
+
+    /// How many vectors are spent, of those that it was given.
+    pub fn spent(&self) -> usize
+        ensures { result ≡ min (vectors_spent self.now.solo) (length self.now.setting.vectors) }
+    {
+        self.vectors.spent()
+    }
+
+    /// The vector at a place, from 0, that the state asks for yet, if there is one. Takes no memory.
+    #[tactic(auto, using(crate::proofs::Spending::are_unspent))]
+    pub fn vector(&self, place: usize) -> Option<&Vector>
+        requires { vectors_spent self.now.solo ≤ place }
+        ensures { option_map (λ v. v.now) result ≡ slice_get self.entry.now.setting.vectors place }
+    {
+        self.vectors.get(place)
     }
 
     /// What an event would leave and send, in a box, so that it stands in one place until it is settled: in the spare one, where

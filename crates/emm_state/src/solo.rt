@@ -252,6 +252,22 @@ impl Counter {
         Counter { count: 0 }
     }
 
+    /// So many were given.
+    pub fn of(count: u16) -> Counter
+        ensures { result ≡ count }
+    {
+        Counter {
+            count: u32::from(count),
+        }
+    }
+
+    /// How many were given.
+    pub fn get(self) -> u16
+        ensures { result ≡ self }
+    {
+        self.count as u16
+    }
+
     /// The slot's next association, and the counter after it.
     pub fn association(self, slot: Slot) -> (AssociationId, Counter)
         ensures id { result.0 ≡ id_of_slot slot (next_counter self) }

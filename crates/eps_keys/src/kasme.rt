@@ -1,11 +1,12 @@
 //! KASME, and the keys that are derived of it (TS 33.401, annex A), by its masked blocks that are kept hashed.
 
-ghost use Rattle.std.specs.Prelude.{◌≡◌, replicate};
-ghost use Rattle.eps_keys.specs.Hmac.{hmac_sha256, kenb, nas_integrity_key, next_hop};
+ghost use Rattle.std.specs.Prelude.{◌≡◌, ◌≤◌, IfSome, replicate};
+ghost use Rattle.eps_keys.specs.Hmac.{hmac_sha256, hop_at, kenb, nas_integrity_key, next_hop};
 
 use crate::derive::{
     block_hashed, hmac_sha256, kenb_input, last_half, mac_from, nas_integrity_input, next_hop_input,
 };
+use crate::equal::same_octets;
 use crate::secrets::{IntegrityKey, Kenb, NextHop};
 use sha2::{Digest, Sha256};
 use std::marker::Model;
@@ -65,6 +66,13 @@ impl Kasme {
         }
     }
 
+    /// Its octets, which are a secret.
+    pub fn octets(&self) -> &[u8; 32]
+        ensures { result.now ≡ self.now }
+    {
+        &self.key
+    }
+
     /// The same key once more, for a copy of the context; takes no memory.
     pub fn copy(&self) -> Kasme
         ensures { result ≡ self.now }
@@ -122,7 +130,7 @@ impl Kasme {
     pub fn kenb(&self, count: u32) -> Kenb
         ensures { result ≡ kenb self.now count }
     {
-        Kenb::new(self.mac(&kenb_input(count)))
+        Kenb::of_count(self.mac(&kenb_input(count)), count)
     }
 
     /// The first next hop key NH, of KeNB (TS 33.401, A.4), as [`crate::next_hop`].
@@ -130,7 +138,7 @@ impl Kasme {
     pub fn first_hop(&self, kenb: &Kenb) -> NextHop
         ensures { result ≡ next_hop self.now kenb.now }
     {
-        NextHop::new(self.mac(&next_hop_input(kenb.octets())))
+        NextHop::of_number(self.mac(&next_hop_input(kenb.octets())), 1)
     }
 
     /// The next hop key NH after another (TS 33.401, A.4), as [`crate::next_hop`].
@@ -138,6 +146,46 @@ impl Kasme {
     pub fn next_hop(&self, previous: &NextHop) -> NextHop
         ensures { result ≡ next_hop self.now previous.now }
     {
-        NextHop::new(self.mac(&next_hop_input(previous.octets())))
+        let number = previous.number().saturating_add(1);
+        NextHop::of_number(self.mac(&next_hop_input(previous.octets())), number)
+    }
+
+    /// The next hop key NH with a number, from 1 on, in the chain of KeNB (TS 33.401, A.4).
+    pub fn hop_at(&self, first: &Kenb, number: u64) -> NextHop
+        requires { 1 ≤ number }
+        ensures { result ≡ hop_at number self.now first.now }
+    {
+        let mut hop = self.first_hop(first);
+        for passed in 1..number {
+            hop = self.next_hop(&hop);
+        }
+        hop
+    }
+
+    /// The uplink NAS COUNT that a KeNB was derived of under this key, which is derived of it once more; none where it wasn't.
+    pub fn count_of(&self, key: &Kenb) -> Option<u32>
+        ensures { IfSome result (λ count. key.now ≡ kenb self.now count) }
+    {
+        let count = key.count();
+        let again = self.kenb(count);
+        if !same_octets(key.octets(), again.octets()) {
+            return None;
+        }
+        Some(count)
+    }
+
+    /// The number of a next hop in the chain of a KeNB, which is derived once more up to it; none where it isn't of this chain.
+    pub fn number_of(&self, first: &Kenb, hop: &NextHop) -> Option<u64>
+        ensures { IfSome result (λ number. (1 ≤ number) × (hop.now ≡ hop_at number self.now first.now)) }
+    {
+        let number = hop.number();
+        if number == 0 {
+            return None;
+        }
+        let again = self.hop_at(first, number);
+        if !same_octets(hop.octets(), again.octets()) {
+            return None;
+        }
+        Some(number)
     }
 }

@@ -39,6 +39,8 @@ impl IntegrityKey {
 #[derive(Drop)]
 pub struct Kenb {
     octets: [u8; 32],
+    // the uplink NAS COUNT that it was derived of, for `Kasme::count_of`, which derives it again; 0 where it was given
+    count: u32,
 }
 
 impl Model for Kenb {
@@ -54,7 +56,19 @@ impl Kenb {
     pub fn new(octets: [u8; 32]) -> Self
         ensures { result ≡ octets }
     {
-        Kenb { octets }
+        Kenb { octets, count: 0 }
+    }
+
+    // The key of these octets, which were derived of a count.
+    pub(crate) fn of_count(octets: [u8; 32], count: u32) -> Self
+        ensures { result ≡ octets }
+    {
+        Kenb { octets, count }
+    }
+
+    // The count that it was derived of.
+    pub(crate) fn count(&self) -> u32 {
+        self.count
     }
 
     /// Its octets, which are a secret.
@@ -68,7 +82,7 @@ impl Kenb {
     pub fn copy(&self) -> Self
         ensures { result ≡ self.now }
     {
-        Kenb::new(self.octets)
+        Kenb::of_count(self.octets, self.count)
     }
 }
 
@@ -76,6 +90,8 @@ impl Kenb {
 #[derive(Drop)]
 pub struct NextHop {
     octets: [u8; 32],
+    // its number in its chain, for `Kasme::number_of`, which derives the chain again; 0 where it was given
+    number: u64,
 }
 
 impl Model for NextHop {
@@ -91,7 +107,19 @@ impl NextHop {
     pub fn new(octets: [u8; 32]) -> Self
         ensures { result ≡ octets }
     {
-        NextHop { octets }
+        NextHop { octets, number: 0 }
+    }
+
+    // The key of these octets, which were derived as those of the hop with a number.
+    pub(crate) fn of_number(octets: [u8; 32], number: u64) -> Self
+        ensures { result ≡ octets }
+    {
+        NextHop { octets, number }
+    }
+
+    // Its number in its chain.
+    pub(crate) fn number(&self) -> u64 {
+        self.number
     }
 
     /// Its octets, which are a secret.
@@ -105,6 +133,6 @@ impl NextHop {
     pub fn copy(&self) -> Self
         ensures { result ≡ self.now }
     {
-        NextHop::new(self.octets)
+        NextHop::of_number(self.octets, self.number)
     }
 }

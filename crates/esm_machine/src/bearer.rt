@@ -57,6 +57,20 @@ impl Bearer {
         }
     }
 
+    /// A bearer whose activation stands there, and for which this request was taken.
+    pub fn of(state: BearerState, request: Option<Request>) -> Bearer
+        ensures { result ≡ record { state = state; request = request } }
+    {
+        Bearer { state, request }
+    }
+
+    /// The connectivity request that was taken, if one was.
+    pub fn request(&self) -> Option<Request>
+        ensures { result ≡ self.now.request }
+    {
+        self.request
+    }
+
     /// Where the activation stands.
     pub fn state(&self) -> BearerState
         ensures { result ≡ self.now.state }

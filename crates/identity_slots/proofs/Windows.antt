@@ -1,8 +1,8 @@
 -- What is in memory of vectors, the first of which are spent.
-use Rattle.std.proofs.Common.{◌≡◌, ◌⊎◌, ◌↔◌, inl, inr, Bool, true, false, ℕ, zero, suc, ◌+◌, ◌-◌, ◌<◌, ◌≤◌, ◌^◌, List, [], ◌∷◌, ◌++◌, drop, length, get_or, refl, sym, ◌∙◌, ap, subst, arith}
+use Rattle.std.proofs.Common.{◌≡◌, ◌⊎◌, ◌↔◌, inl, inr, Bool, true, false, ℕ, zero, suc, ◌+◌, ◌-◌, ◌<◌, ◌≤◌, ◌^◌, List, [], ◌∷◌, ◌++◌, drop, length, get_or, replicate, refl, sym, ◌∙◌, ap, subst, arith}
 use Rattle.std.specs.Prelude.{slice_get, slice_set, option_map, Option, Some, None, IsSome}
 use Rattle.std.proofs.Math.Nat.{lt_of_not-le}
-use Rattle.std.proofs.lemmas.List.{get_or-drop, length-append, length-drop, drop-append-le}
+use Rattle.std.proofs.lemmas.List.{get_or-drop, length-append, length-drop, length-replicate, drop-append-le}
 use Rattle.identity_slots.specs.declared.profile.Vector.{Vector}
 use Rattle.identity_slots.specs.Forgetting.{first_forgotten, forgotten}
 use Rattle.identity_slots.specs.Spending.{IsStocked, IsWindow, KeptView}
@@ -140,3 +140,21 @@ isnt_stocked v r h off =
     let few = lt_of_not-le (λ (le : 64 ≤ length v.given - v.spent). never (inl le)) in
     let small = lt_of_not-le (λ (le : 2 ^ 62 ≤ length v.given). never (inr le)) in
     (omega (arith, few), small)
+
+-- ---- those that are gone from the beginning on
+
+first_of_some : (n : ℕ) (h : Vector) (vs : List Vector) → drop n (first_forgotten n (replicate n h ++ vs)) ≡ vs
+first_of_some zero h vs = refl
+first_of_some (suc n) h vs = first_of_some n h vs
+
+pub window_resumed : (n : ℕ) (h : Vector) (given vs : List Vector) → given ≡ replicate n h ++ vs → n + length vs < 2 ^ 63
+    → IsWindow n n given vs
+window_resumed n h given vs is small =
+    let long : length given ≡ n + length vs =
+    ap length is ∙ length-append (replicate n h) vs ∙ ap (λ m. m + length vs) (length-replicate n h) in
+    record {
+      items = sym (first_of_some n h vs) ∙ ap (λ (us : List Vector). drop n (first_forgotten n us)) (sym is);
+      based = omega arith;
+      within = omega (arith, long);
+      small = omega (arith, long, small);
+    }

@@ -1,6 +1,6 @@
 //! What proofs remember of a value, and the program doesn't: a history takes no memory, and its calls do nothing when they run.
 
-ghost use Rattle.std.specs.Prelude.{◌≡◌, List, [], ◌∷◌, ◌++◌};
+ghost use Rattle.std.specs.Prelude.{◌≡◌, List, [], ◌∷◌, ◌++◌, replicate};
 ghost use Rattle.std.specs.Borrow.{ftrue};
 
 use std::marker::{Model, PhantomData};
@@ -27,6 +27,13 @@ impl<T> History<T> {
     /// And of this value, as it is now.
     pub fn and(&self, value: &T) -> History<T>
         ensures { result.items ≡ self.now.items ++ value.now ∷ [] }
+    {
+        History { of: PhantomData }
+    }
+
+    /// Of this value, as it is now, so often.
+    pub fn repeated(value: &T, count: usize) -> History<T>
+        ensures { result.items ≡ replicate count value.now }
     {
         History { of: PhantomData }
     }

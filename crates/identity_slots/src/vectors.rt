@@ -1,6 +1,6 @@
 //! The authentication vectors of a subscriber: as they are given, and as they are kept until they are spent.
 
-ghost use Rattle.std.specs.Prelude.{◌≡◌, ◌≢◌, ◌↔◌, ◌+◌, ◌<◌, ◌≤◌, ◌^◌, ◌++◌, ◌∷◌, [], Err, IfErr, IfOk, IsSome, OnOk, OnErr, drop, length, option_map, slice_get, true, vec_len};
+ghost use Rattle.std.specs.Prelude.{◌≡◌, ◌≢◌, ◌↔◌, ◌+◌, ◌<◌, ◌≤◌, ◌^◌, ◌++◌, ◌∷◌, [], Err, IfErr, IfOk, IsSome, OnOk, OnErr, drop, length, replicate, option_map, slice_get, true, vec_len};
 ghost use Rattle.std.specs.Vec.{vec_capacity};
 ghost use Rattle.identity_slots.specs.Forgetting.{first_forgotten, forgotten};
 ghost use Rattle.identity_slots.specs.Spending.{IsStocked, spent_before};
@@ -183,6 +183,17 @@ impl Model for GivenVectors {
 }
 
 impl GivenVectors {
+    // This one so often, and then these.
+    fn resumed(spent: usize, husk: &Vector, rest: &[Vector]) -> GivenVectors
+        ensures { result ≡ replicate spent husk.now ++ rest.now }
+    {
+        let mut items = History::repeated(husk, spent);
+        for vector in rest {
+            items = items.and(vector);
+        }
+        GivenVectors { items }
+    }
+
     // The same once more.
     fn again(&self) -> GivenVectors
         ensures { result ≡ self.now }
@@ -236,11 +247,33 @@ impl Model for KeptVectors {
 }
 
 impl KeptVectors {
+    /// Vectors of which the first `spent` are gone: for each of them stands this one, and the rest is unspent. Takes no memory.
+    pub fn resumed(spent: usize, husk: &Vector, rest: Vectors) -> KeptVectors
+        requires { spent + length rest < 2 ^ 63 }
+        ensures { result ≡ record { given = replicate spent husk.now ++ rest; spent = spent } }
+    {
+        let given = GivenVectors::resumed(spent, husk, rest.as_slice());
+        KeptVectors {
+            items: rest.items,
+            base: spent,
+            spent,
+            given,
+        }
+    }
+
     /// All as they were given.
     pub fn given(&self) -> GivenVectors
         ensures { result ≡ self.now.given }
     {
         self.given.again()
+    }
+
+    /// How many are spent.
+    pub fn spent(&self) -> usize
+        ensures value { result ≡ self.now.spent }
+        ensures within { self.now.spent ≤ length self.now.given }
+    {
+        self.spent
     }
 
     /// The vector at a place, from 0, that isn't spent, if there is one. Takes no memory.

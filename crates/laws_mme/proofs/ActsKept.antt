@@ -9,11 +9,11 @@ use Rattle.identity_slots.specs.Ids.{slots}
 use Rattle.identity_slots.specs.Provisioned.{add_fault, slot_of_address, slot_of_imsi}
 use Rattle.mme_answering.specs.declared.out.Out.{Out}
 use Rattle.mme_core.specs.declared.event.StepFault.{StepFault}
-use Rattle.mme_core.specs.Apart.{AreApart, IdsStayApart}
-use Rattle.mme_core.specs.Kept.{IsKept, StaysKept}
+use Rattle.mme_core.specs.Apart.{AddedStaysApart, AreApart, GivenStaysApart, IdsStayApart}
+use Rattle.mme_core.specs.Kept.{AddedStaysKept, GivenStaysKept, IsKept, StaysKept}
 use Rattle.mme_core.specs.Provisioning.{give_fault, world_added, world_given}
 use Rattle.mme_core.specs.World.{World, reply, world_after}
-use Rattle.laws_mme.specs.Acts.{Act, ActsJoin, ActsKeep, ActsStayApart, AddedStaysApart, AddedStaysKept, Adds, EventsAreActs, Gives, GivenStaysApart, GivenStaysKept, Happens, act_after, act_reply, unless_refused}
+use Rattle.laws_mme.specs.Acts.{Act, ActsJoin, ActsKeep, ActsStayApart, Adds, EventsAreActs, Gives, Happens, act_after, act_reply, unless_refused}
 
 pub events_are_acts : EventsAreActs
 events_are_acts w [] = record { answers = refl; world = refl }

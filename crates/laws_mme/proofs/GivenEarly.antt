@@ -12,11 +12,11 @@ use Rattle.mme_owners.specs.Changed.{changed_at}
 use Rattle.mme_answering.specs.declared.out.Out.{Out}
 use Rattle.mme_core.specs.declared.event.Event.{Event}
 use Rattle.mme_core.specs.declared.event.StepFault.{StepFault}
-use Rattle.mme_core.specs.Kept.{IsKept}
+use Rattle.mme_core.specs.Kept.{GivenStaysKept, IsKept}
 use Rattle.mme_core.specs.Projection.{item_for}
 use Rattle.mme_core.specs.Provisioning.{world_given}
 use Rattle.mme_core.specs.World.{World, replies, reply, strangers_in, world_after, world_run}
-use Rattle.laws_mme.specs.Acts.{Act, ActsKeep, Adds, Gives, GivenStaysKept, Happens, act_after, unless_refused}
+use Rattle.laws_mme.specs.Acts.{Act, ActsKeep, Adds, Gives, Happens, act_after, unless_refused}
 use Rattle.laws_mme.specs.Early.{GivenEarlyIsGivenLate, IsServed, ahead, event_replies, events_in}
 use Rattle.laws_mme.specs.Looks.{HasOneLeft}
 use Rattle.laws_mme.proofs.GivenAfter.{given_before_is_given_after}

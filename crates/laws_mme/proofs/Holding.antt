@@ -1,6 +1,6 @@
 -- What is known of a phone's radio keys: every key from `f` on may yet be handed out, and none before it.
 use Rattle.std.proofs.Common.{◌≡◌, ℕ, zero, suc, ◌+◌, ◌%◌, ◌^◌, ◌<◌, ◌≤◌, Bool, true, false, inl, inr, List, Option, Some, None, slice_get, refl, le_refl, ap, arith}
-use Rattle.eps_keys.specs.Hmac.{kenb, next_hop}
+use Rattle.eps_keys.specs.Hmac.{hop_at, kenb, next_hop}
 use Rattle.identity_slots.specs.declared.profile.Vector.{Vector}
 use Rattle.nas_security.specs.Counts.{first_after}
 use Rattle.mme_types.specs.declared.connection.RadioKeys.{RadioKeys}
@@ -12,7 +12,7 @@ use Rattle.emm_state.specs.declared.solo.Solo.{Solo}
 use Rattle.emm_state.specs.Actions.{is_registered}
 use Rattle.emm_machine.specs.Connected.{hopped, standing_hop}
 use Rattle.emm_machine.specs.Freshness.{HasVector, next_place}
-use Rattle.laws_subscriber.specs.Sound.{hop_at, is_past_proof, keys_after}
+use Rattle.laws_subscriber.specs.Sound.{is_past_proof, keys_after}
 use Rattle.laws_mme.specs.Handed.{RadioKey}
 use Rattle.laws_mme.proofs.KeyOrder.{IsUpTo, count_up, first_of, hop_up, key, place_up, up_to_trans}
 

@@ -5,7 +5,7 @@ use Rattle.identity_slots.specs.declared.profile.Vector.{Vector}
 use Rattle.emm_state.specs.declared.solo.Phase.{Phase}
 use Rattle.emm_state.specs.declared.solo.Phase.TheVariants.{Authenticating}
 use Rattle.emm_state.specs.Taking.{next_place}
-use Rattle.laws_mme.specs.Remembered.{husked}
+use Rattle.mme_core.specs.Remembered.{husked}
 
 pub get_past : (h : Vector) (k n : ℕ) (vs : List Vector) → k ≤ n → slice_get (husked h k vs) n ≡ slice_get vs n
 get_past h zero n vs le = refl

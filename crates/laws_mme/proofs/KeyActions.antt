@@ -7,7 +7,7 @@ use Rattle.s1ap_causes.specs.declared.cause.Cause.{Cause}
 use Rattle.s1ap_pdus.specs.declared.pdu.Pdu.{Pdu}
 use Rattle.s1ap_pdus.specs.Pdus.{encoded}
 use Rattle.nas_messages.specs.declared.protection.SecurityHeader.{SecurityHeader}
-use Rattle.eps_keys.specs.Hmac.{kenb, next_hop}
+use Rattle.eps_keys.specs.Hmac.{hop_at, kenb, next_hop}
 use Rattle.nas_security.specs.Counts.{first_after}
 use Rattle.identity_slots.specs.declared.profile.Vector.{Vector}
 use Rattle.mme_types.specs.declared.connection.Connection.{Connection}
@@ -32,7 +32,7 @@ use Rattle.emm_machine.specs.Connected.{connection_of, hop_after, hopped, next_c
 use Rattle.emm_machine.specs.Freshness.{HasVector, next_place}
 use Rattle.emm_machine.specs.Serving.{active}
 use Rattle.laws_subscriber.specs.Keys.{IsForConnection, has_radio_key}
-use Rattle.laws_subscriber.specs.Sound.{hop_at, is_past_proof}
+use Rattle.laws_subscriber.specs.Sound.{is_past_proof}
 use Rattle.laws_subscriber.specs.Choices.{Whenever, at_some, either, either_by, nothing, some, then}
 use Rattle.laws_mme.specs.Handed.{HasKey, RadioKey}
 use Rattle.laws_mme.specs.KeysOfMessage.{IsKept, IsOfAccepted, kenb_in}

@@ -31,7 +31,6 @@ mod KeysOfMessage
 pub mod LooksAtAttach
 pub mod LooksAtServing
 pub mod Looks
-pub mod GivenKept
 pub mod ActsKept
 pub mod ActOnce
 pub mod SlotAtAct

@@ -27,7 +27,8 @@ use Rattle.emm_machine.specs.Steps.{row, solo_answers, solo_after, solo_step, sp
 use Rattle.laws_subscriber.specs.Proof.{nas_of_body}
 use Rattle.laws_subscriber.specs.Sound.{HasChallenge, IsSound, StaysSound}
 use Rattle.laws_mme.specs.Challenges.{fails_to_synchronise}
-use Rattle.laws_mme.specs.Looks.{HasOneLeft, LooksSame, LooksSameAlong, NeverRunsOut, RunsLookAtTwo, StepsLookAtTwo, VectorsMayComeLate, having}
+use Rattle.emm_machine.specs.Given.{having}
+use Rattle.laws_mme.specs.Looks.{HasOneLeft, LooksSame, LooksSameAlong, NeverRunsOut, RunsLookAtTwo, StepsLookAtTwo, VectorsMayComeLate}
 use Rattle.laws_mme.proofs.LooksAtAttach.{SameAt, if_false, if_true, map_or}
 use Rattle.laws_mme.proofs.LooksAtServing.{claimed, entered, uplink}
 

@@ -23,7 +23,7 @@ use Rattle.emm_state.specs.declared.solo.Phase.TheVariants.{Authenticating}
 use Rattle.emm_state.specs.Actions.{set_up, set_up_with, wipe}
 use Rattle.emm_machine.specs.Attaching as attaching
 use Rattle.laws_mme.specs.Challenges.{fails_to_synchronise, tells_synch_failure}
-use Rattle.laws_mme.specs.Looks.{having}
+use Rattle.emm_machine.specs.Given.{having}
 
 -- ---- choices
 

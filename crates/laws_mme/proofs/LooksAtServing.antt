@@ -23,7 +23,7 @@ use Rattle.emm_machine.specs.Attaching as attaching
 use Rattle.emm_machine.specs.Serving as serving
 use Rattle.laws_subscriber.specs.Unproved.{is_attach_request}
 use Rattle.laws_mme.specs.Challenges.{fails_to_synchronise}
-use Rattle.laws_mme.specs.Looks.{having}
+use Rattle.emm_machine.specs.Given.{having}
 use Rattle.laws_mme.proofs.LooksAtAttach.{SameAt, accept, attach, if_false, if_true, in_authenticating, in_security_mode, map_or}
 
 -- ---- what a new connection leaves as it is

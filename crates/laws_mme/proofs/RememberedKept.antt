@@ -3,8 +3,11 @@ use Rattle.std.proofs.Common.{◌≡◌, ℕ, zero, suc, ◌-◌, ◌<◌, ◌�
 use Rattle.std.specs.Prelude.{slice_get}
 use Rattle.std.proofs.lemmas.Option.{same_Some}
 use Rattle.eps_keys.specs.Hmac.{nas_integrity_key}
+use Rattle.sorted_list.specs.Ordered.{Every}
+use Rattle.identity_slots.specs.declared.profile.Profile.{Profile}
 use Rattle.identity_slots.specs.declared.profile.Vector.{Vector}
 use Rattle.identity_slots.specs.Ids.{slots}
+use Rattle.mme_types.specs.declared.network.Network.{Network}
 use Rattle.emm_state.specs.declared.setting.Setting.{Setting}
 use Rattle.emm_state.specs.declared.solo.Context.{Context}
 use Rattle.emm_state.specs.declared.solo.Phase.{Phase}
@@ -15,7 +18,8 @@ use Rattle.emm_machine.specs.Freshness.{IsBelow, IsInUse}
 use Rattle.emm_machine.specs.SubscriberView.{SubscriberView}
 use Rattle.laws_subscriber.specs.Sound.{HasChallenge, HasContext, IsOfVector, IsSound}
 use Rattle.mme_core.specs.FreshRuns.{AreInUse}
-use Rattle.laws_mme.specs.Remembered.{husk, husked, kasme_in, remembered_setting, remembered_view}
+use Rattle.mme_core.specs.Kept.{HasNetwork, profile_of}
+use Rattle.mme_core.specs.Remembered.{husk, husked, kasme_in, remembered_setting, remembered_view}
 use Rattle.laws_mme.specs.Restarts.{RememberedStaysApart, RememberedStaysKept}
 use Rattle.laws_mme.proofs.Husks.{get_past, get_within}
 use Rattle.laws_mme.proofs.Remembering.{as_many}
@@ -75,6 +79,14 @@ all_in_use : (ws : List SubscriberView) → AreInUse ws → AreInUse (map rememb
 all_in_use [] h = tt
 all_in_use (x ∷ ws) h = (h.0, remembered_is_sound x.setting x.solo h.0 h.1, h.2, all_in_use ws h.3)
 
+same_profiles : (ws : List SubscriberView) → map profile_of (map remembered_view ws) ≡ map profile_of ws
+same_profiles [] = refl
+same_profiles (x ∷ ws) = ap (λ (ps : List Profile). x.setting.profile ∷ ps) (same_profiles ws)
+
+same_networks : (n : Network) (ws : List SubscriberView) → Every (HasNetwork n) ws → Every (HasNetwork n) (map remembered_view ws)
+same_networks n [] h = tt
+same_networks n (x ∷ ws) h = (h.0, same_networks n ws h.1)
+
 -- who stands at a place is remembered of who stood there
 record IsOfBefore (ws : List SubscriberView) (slot : ℕ) (x : SubscriberView) : Type 0 where
   before : SubscriberView
@@ -95,6 +107,8 @@ remembered_stays_kept w h = record {
   timed = h.timed;
   in_use = all_in_use w.subscribers h.in_use;
   provisioned = as_many w.subscribers ∙ h.provisioned;
+  profiles = same_profiles w.subscribers ∙ h.profiles;
+  networks = same_networks w.sight.config.network w.subscribers h.networks;
 }
 
 pub remembered_stays_apart : RememberedStaysApart

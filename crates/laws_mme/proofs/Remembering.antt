@@ -22,10 +22,11 @@ use Rattle.mme_routing.specs.Destinations.{strangers_left}
 use Rattle.mme_core.specs.declared.event.Event.{Event}
 use Rattle.mme_core.specs.declared.event.StepFault.{StepFault}
 use Rattle.mme_core.specs.Provisioning.{fresh_subscriber, give_fault, sight_added, world_added, world_given}
-use Rattle.laws_mme.specs.Remembered.{husk, kasme_in, remembered, remembered_setting, remembered_vectors, remembered_view}
+use Rattle.mme_core.specs.Remembered.{husk, kasme_in, remembered, remembered_setting, remembered_vectors, remembered_view}
 use Rattle.mme_core.specs.World.{World, each_after, each_sent, event_fault, happens, items_of, reply, reply_of, sight_moved, slot_out, station_of, station_sent, strangers_in, strangers_sent, subscriber_after, subscriber_step, unless, world_moved}
 use Rattle.laws_mme.specs.Acts.{Act, Adds, Gives, Happens, act_after, act_reply, acts_replies, acts_run, unless_refused}
-use Rattle.laws_mme.specs.Looks.{LooksSame, StepsLookAtTwo, having}
+use Rattle.emm_machine.specs.Given.{having}
+use Rattle.laws_mme.specs.Looks.{LooksSame, StepsLookAtTwo}
 use Rattle.laws_mme.specs.Restarts.{Acts, NobodyCanTell, RemembersOnce, Restarts, RestartsAreUnseen, StatesAreRemembered, acts_among}
 use Rattle.laws_mme.proofs.Husks.{as_many_husked, get_past, husked_again, next_within, pushed_again}
 

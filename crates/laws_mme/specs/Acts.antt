@@ -65,21 +65,7 @@ ActsJoin = (w : World) (acts more : List Act) → ActsFollow w acts more
 
 -- ---- what always holds
 
--- it holds with a vector more for a slot, and with a subscriber more
-abbrev pub GivenStaysKept : Type 0
-GivenStaysKept = (w : World) (slot : ℕ) (v : Vector) → IsKept w → IsKept (world_given slot v w)
-
-abbrev pub AddedStaysKept : Type 0
-AddedStaysKept = (w : World) (p : Profile) → IsKept w → IsKept (world_added p w)
-
--- and so does it that no two phones share an association's id, where there is a slot for whoever is added
-abbrev pub GivenStaysApart : Type 0
-GivenStaysApart = (w : World) (slot : ℕ) (v : Vector) → AreApart w → AreApart (world_given slot v w)
-
-abbrev pub AddedStaysApart : Type 0
-AddedStaysApart = (w : World) (p : Profile) → length w.subscribers < slots → AreApart w → AreApart (world_added p w)
-
--- so over every list of acts, whatever octets stations send
+-- it holds over every list of acts, whatever octets stations send
 abbrev pub ActsKeep : Type 0
 ActsKeep = (w : World) (acts : List Act) → IsKept w → IsKept (acts_run w acts)
 

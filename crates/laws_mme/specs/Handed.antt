@@ -5,7 +5,7 @@ use Rattle.std.specs.List.{AllZip}
 use Rattle.s1ap_pdus.specs.declared.pdu.Pdu.{Pdu}
 use Rattle.s1ap_pdus.specs.declared.pdu.Pdu.TheVariants as pdu
 use Rattle.s1ap_pdus.specs.Pdus.{decoded}
-use Rattle.eps_keys.specs.Hmac.{kenb}
+use Rattle.eps_keys.specs.Hmac.{hop_at, kenb}
 use Rattle.identity_slots.specs.declared.profile.Vector.{Vector}
 use Rattle.mme_types.specs.declared.connection.Connection.{Connection}
 use Rattle.mme_types.specs.declared.octets.Answer.{Answer}
@@ -16,7 +16,6 @@ use Rattle.emm_state.specs.declared.solo.Solo.{Solo}
 use Rattle.emm_machine.specs.Steps.{solo_step}
 use Rattle.emm_machine.specs.Words.{fresh_solo}
 use Rattle.laws_subscriber.specs.Keys.{IsForConnection, has_radio_key}
-use Rattle.laws_subscriber.specs.Sound.{hop_at}
 
 -- ---- keys in their order
 

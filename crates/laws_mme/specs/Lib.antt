@@ -32,5 +32,4 @@ pub mod Acts
 pub mod ActsAlone
 pub mod Early
 pub mod ActByAct
-pub mod Remembered
 pub mod Restarts

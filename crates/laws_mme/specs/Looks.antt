@@ -5,14 +5,12 @@ use Rattle.mme_types.specs.Events.{Item}
 use Rattle.emm_state.specs.declared.setting.Setting.{Setting}
 use Rattle.emm_state.specs.declared.solo.Phase.TheVariants.{Authenticating}
 use Rattle.emm_state.specs.declared.solo.Solo.{Solo}
+use Rattle.emm_machine.specs.Given.{having}
 use Rattle.emm_machine.specs.Steps.{solo_after, solo_answers, solo_step}
 use Rattle.laws_subscriber.specs.Sound.{IsSound}
 use Rattle.laws_mme.specs.Challenges.{may_challenge}
 
 -- ---- another list of vectors
-
-abbrev pub having : List Vector → Setting → Setting
-having vs s = record { network = s.network; slot = s.slot; profile = s.profile; vectors = vs }
 
 -- two lists have the same vectors where a step looks
 pub record LooksSame (vs us : List Vector) (solo : Solo) (item : Item) : Type 0 where

@@ -6,7 +6,7 @@ use Rattle.mme_answering.specs.declared.out.Out.{Out}
 use Rattle.mme_core.specs.declared.event.StepFault.{StepFault}
 use Rattle.mme_core.specs.Apart.{AreApart}
 use Rattle.mme_core.specs.Kept.{IsKept}
-use Rattle.laws_mme.specs.Remembered.{remembered}
+use Rattle.mme_core.specs.Remembered.{remembered}
 use Rattle.mme_core.specs.World.{World}
 use Rattle.laws_mme.specs.Acts.{Act, act_after, act_reply, acts_replies, acts_run}
 

@@ -1,8 +1,10 @@
 //! An MME that is given subscribers and vectors while it runs: what each owner is told and becomes over a list of acts, which are
 //! events and what the MME is given between them. Each law is the contract of a function that does nothing.
 
+ghost use Rattle.mme_core.specs.Apart.{AddedStaysApart, GivenStaysApart};
+ghost use Rattle.mme_core.specs.Kept.{AddedStaysKept, GivenStaysKept};
 ghost use Rattle.laws_mme.specs.ActByAct.{StepsAreActs};
-ghost use Rattle.laws_mme.specs.Acts.{ActsJoin, ActsKeep, ActsStayApart, AddedStaysApart, AddedStaysKept, EventsAreActs, GivenStaysApart, GivenStaysKept};
+ghost use Rattle.laws_mme.specs.Acts.{ActsJoin, ActsKeep, ActsStayApart, EventsAreActs};
 ghost use Rattle.laws_mme.specs.ActsAlone.{RepliesToActsAreInOrder, SlotGoesAloneOverActs, SlotGoesThroughStatesOverActs, SlotIsToldOverActs, StationGoesAloneOverActs, StationIsToldOverActs, StrangerGoesAloneOverActs, StrangerIsToldOverActs};
 ghost use Rattle.laws_mme.specs.Early.{BegunEarlyIsGivenLate, GivenBeforeIsGivenAfter, GivenEarlyIsGivenLate};
 ghost use Rattle.laws_mme.specs.Looks.{RunsLookAtTwo, StepsLookAtTwo, VectorsMayComeLate};
@@ -34,9 +36,6 @@ pub fn what_is_given_stays_kept()
     ensures acts { ActsKeep }
 {
     worlds_are_kept();
-    in_use_is_kept();
-    soundness_is_kept();
-    clocks_are_kept();
 }
 
 /// And over every list of acts no two phones share an association's id (TS 36.413 clause 9.2.3.3).

@@ -2,7 +2,7 @@
 -- phase says whether there are a connection and a context.
 use Rattle.std.specs.Prelude.{◌≡◌, ℕ, zero, suc, ◌+◌, ◌≤◌, ◌/◌, ◌%◌, ◌==◌, ◌&&◌, Bool, true, false, List, [], ◌∷◌, slice_get, Option, Some, None, IsSome, is_some}
 use Rattle.nas_messages.specs.Protection.{header_of}
-use Rattle.eps_keys.specs.Hmac.{kenb, nas_integrity_key, next_hop}
+use Rattle.eps_keys.specs.Hmac.{hop_at, kenb, nas_integrity_key}
 use Rattle.identity_slots.specs.declared.profile.Vector.{Vector}
 use Rattle.mme_types.specs.Events.{Item}
 use Rattle.mme_types.specs.declared.connection.Connection.{Connection}
@@ -25,11 +25,6 @@ pub record IsOfVector (vectors : List Vector) (x : Context) (v : Vector) : Type 
   pub integrity : x.security.integrity ≡ nas_integrity_key v.kasme
   pub kasme : x.kasme ≡ v.kasme
   pub ksi : x.security.ksi ≡ x.place % 7
-
--- the hop of a number in the chain of KeNB, which stands before the first (TS 33.401, A.4)
-abbrev pub hop_at : ℕ → List ℕ → List ℕ → List ℕ
-hop_at zero kasme kenb = kenb
-hop_at (suc n) kasme kenb = next_hop kasme (hop_at n kasme kenb)
 
 -- the hop that a station was sent last, after n path switches: none is sent the first (TS 33.401 clause 7.2.8.4.2)
 abbrev pub told_after : ℕ → List ℕ → List ℕ → Option (List ℕ)

@@ -81,10 +81,8 @@ impl Outs {
 
     /// They were sent: zeros stand in place of their octets before these are freed, since some carry a key. Takes no memory.
     pub fn forget(self) {
-        let Outs { mut items } = self;
-        for out in items.iter_mut() {
-            out.octets.forget();
-        }
+        let mut sent = self;
+        sent.clear();
     }
 
     /// The same, and the room for as many messages stays. Takes no memory.

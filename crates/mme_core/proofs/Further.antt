@@ -1,6 +1,6 @@
 -- What always holds of an MME holds where it has a subscriber or a vector more.
 use Rattle.std.proofs.Common.{◌≡◌, ◌≢◌, ◌⊎◌, ◌↔◌, inl, inr, ℕ, zero, suc, ◌+◌, ◌-◌, ◌<◌, ◌≤◌, List, [], ◌∷◌, ◌++◌, length, Bool, true, false, cond, Option, Some, None, Result, Ok, Err, refl, sym, ◌∙◌, ap, subst, arith}
-use Rattle.std.specs.Prelude.{slice_get, get_or, nat_le, is_some, if◌then◌else◌, IfSome, OnErr, OnOk}
+use Rattle.std.specs.Prelude.{map, slice_get, get_or, nat_le, is_some, if◌then◌else◌, IfSome, OnErr, OnOk}
 use Rattle.std.proofs.lemmas.Bool.Decides.{nat_tests}
 use Rattle.std.proofs.lemmas.List.{get_or_push, length_push}
 use Rattle.std.proofs.lemmas.Option.{same_Some}
@@ -26,9 +26,10 @@ use Rattle.laws_subscriber.specs.Sound.{HasChallenge, HasContext, IsOfVector, Is
 use Rattle.laws_subscriber.specs.Clocked.{IsClocked}
 use Rattle.mme_owners.specs.Given.{given_at, is_stocked_at, TakesOneVector}
 use Rattle.mme_owners.specs.Owners.{OwnersView}
-use Rattle.mme_core.specs.Apart.{AreApart}
+use Rattle.sorted_list.specs.Ordered.{Every}
+use Rattle.mme_core.specs.Apart.{AddedStaysApart, AreApart, GivenStaysApart}
 use Rattle.mme_core.specs.FreshRuns.{AreInUse}
-use Rattle.mme_core.specs.Kept.{IsKept}
+use Rattle.mme_core.specs.Kept.{AddedStaysKept, GivenStaysKept, HasNetwork, IsKept, profile_of}
 use Rattle.mme_core.specs.Provisioning.{give_fault, sight_added, world_added, world_given}
 use Rattle.mme_core.specs.Sight.{Sight}
 use Rattle.mme_core.specs.World.{World, never_seen, world_of}
@@ -93,6 +94,26 @@ in_use_push : (ws : List SubscriberView) (x : SubscriberView) → IsInUse x.solo
 in_use_push [] x used sound clocked h = (used, sound, clocked, tt)
 in_use_push (w ∷ ws) x used sound clocked h = (h.0, h.1, h.2, in_use_push ws x used sound clocked h.3)
 
+profiles_given : (k : ℕ) (v : Vector) (ws : List SubscriberView) → map profile_of (given_at k v ws) ≡ map profile_of ws
+profiles_given k v [] = refl
+profiles_given zero v (x ∷ ws) = refl
+profiles_given (suc k) v (x ∷ ws) = ap (λ (ps : List Profile). x.setting.profile ∷ ps) (profiles_given k v ws)
+
+networks_given : (n : Network) (k : ℕ) (v : Vector) (ws : List SubscriberView) → Every (HasNetwork n) ws
+    → Every (HasNetwork n) (given_at k v ws)
+networks_given n k v [] h = tt
+networks_given n zero v (x ∷ ws) h = (h.0, h.1)
+networks_given n (suc k) v (x ∷ ws) h = (h.0, networks_given n k v ws h.1)
+
+profiles_push : (ws : List SubscriberView) (x : SubscriberView) → map profile_of (ws ++ x ∷ []) ≡ map profile_of ws ++ profile_of x ∷ []
+profiles_push [] x = refl
+profiles_push (w ∷ ws) x = ap (λ (ps : List Profile). w.setting.profile ∷ ps) (profiles_push ws x)
+
+networks_push : (n : Network) (ws : List SubscriberView) (x : SubscriberView) → HasNetwork n x → Every (HasNetwork n) ws
+    → Every (HasNetwork n) (ws ++ x ∷ [])
+networks_push n [] x one h = (one, tt)
+networks_push n (w ∷ ws) x one h = (h.0, networks_push n ws x one h.1)
+
 -- who stands at a place stood there before, with another list of vectors at the most
 record WasThere (ws : List SubscriberView) (slot : ℕ) (x : SubscriberView) : Type 0 where
   before : SubscriberView
@@ -130,17 +151,19 @@ pushed (w ∷ ws) (suc slot) y x at = elim (pushed ws slot y x at) [
 
 -- ---- the MME with a vector more
 
-given_kept : (slot : ℕ) (v : Vector) (w : World) → IsKept w → IsKept (world_given slot v w)
-given_kept slot v w h = record {
+pub given_kept : GivenStaysKept
+given_kept w slot v h = record {
   stations = h.stations;
   rising = h.rising;
   timed = h.timed;
   in_use = in_use_given slot v w.subscribers h.in_use;
   provisioned = as_many_given slot v w.subscribers ∙ h.provisioned;
+  profiles = profiles_given slot v w.subscribers ∙ h.profiles;
+  networks = networks_given w.sight.config.network slot v w.subscribers h.networks;
 }
 
-given_apart : (slot : ℕ) (v : Vector) (w : World) → AreApart w → AreApart (world_given slot v w)
-given_apart slot v w h = record {
+pub given_apart : GivenStaysApart
+given_apart w slot v h = record {
   few = subst (λ n. n ≤ slots) (sym (as_many_given slot v w.subscribers)) h.few;
   numbered = λ n x at. let was = was_there v slot n w.subscribers x at in was.own ∙ h.numbered n was.before was.there;
   rising = h.rising;
@@ -151,18 +174,19 @@ given_apart slot v w h = record {
 }
 
 -- and with a subscriber more
-added_kept : IsInUse fresh_solo → ((s : Setting) → IsSound s fresh_solo) → IsClocked fresh_solo → (p : Profile) (w : World)
-    → IsKept w → IsKept (world_added p w)
-added_kept used sound clocked p w h = record {
+pub added_kept : IsInUse fresh_solo → ((s : Setting) → IsSound s fresh_solo) → IsClocked fresh_solo → AddedStaysKept
+added_kept used sound clocked w p h = record {
   stations = h.stations;
   rising = h.rising;
   timed = h.timed;
   in_use = in_use_push w.subscribers _ used (sound _) clocked h.in_use;
   provisioned = length_push w.subscribers _ ∙ ap (λ n. n + 1) h.provisioned ∙ sym (length_push w.sight.profiles p);
+  profiles = profiles_push w.subscribers _ ∙ ap (λ (ps : List Profile). ps ++ p ∷ []) h.profiles;
+  networks = networks_push w.sight.config.network w.subscribers _ refl h.networks;
 }
 
-added_apart : (p : Profile) (w : World) → length w.subscribers < slots → AreApart w → AreApart (world_added p w)
-added_apart p w room h = record {
+pub added_apart : AddedStaysApart
+added_apart w p room h = record {
   few = subst (λ n. n ≤ slots) (sym (length_push w.subscribers _)) (omega (arith, room));
   numbered = λ n x at. elim (pushed w.subscribers n _ x at) [
     | inl before ↦ h.numbered n x before
@@ -175,19 +199,6 @@ added_apart p w room h = record {
     | inr last ↦ let none : x.solo.connection ≡ None = ap (λ (y : SubscriberView). y.solo.connection) last.1 in absurd (cc (none, on))
   ];
 }
-
--- the provisioning and the owners have one more each
-pub added_world : (p : Profile) (s t : Sight) (o q : OwnersView) (n : Network) (slot : ℕ) (vs : List Vector) → t ≡ sight_added p s
-    → q.strangers ≡ o.strangers → q.subscribers ≡ o.subscribers ++ never_seen n slot p vs ∷ [] → n ≡ s.config.network
-    → slot ≡ length o.subscribers → vs ≡ [] → world_of t q ≡ world_added p (world_of s o)
-added_world p s t o q n slot vs sight strangers subscribers network next none =
-    let one : never_seen n slot p vs ≡ never_seen s.config.network (length o.subscribers) p [] =
-    ap (λ m. never_seen m slot p vs) network ∙ ap (λ k. never_seen s.config.network k p vs) next
-    ∙ ap (λ ys. never_seen s.config.network (length o.subscribers) p ys) none in
-    ap (λ (x : Sight). world_of x q) sight
-    ∙ ap (λ (ks : List Known). record { sight = sight_added p s; strangers = ks; subscribers = q.subscribers }) strangers
-    ∙ ap (λ (ws : List SubscriberView). record { sight = sight_added p s; strangers = o.strangers; subscribers = ws })
-    (subscribers ∙ ap (λ (w : SubscriberView). o.subscribers ++ w ∷ []) one)
 
 -- ---- whatever is answered
 
@@ -202,7 +213,7 @@ added_mme (Ok x) p s t o q used sound clocked room added clock err h =
     let le = h.0 in
     let own = ap (λ (w : World). w.sight.clock) added in
     moved_mme t q (world_added p (world_of s o)) added (omega (arith, le, own, clock))
-    (added_kept used sound clocked p (world_of s o) h.1) (added_apart p (world_of s o) room h.2)
+    (added_kept used sound clocked (world_of s o) p h.1) (added_apart (world_of s o) p room h.2)
 added_mme (Err x) p s t o q used sound clocked room added clock err h =
     let le = h.0 in
     let own = ap (λ (w : World). w.sight.clock) err in
@@ -240,7 +251,7 @@ given_mme (Ok x) slot v s o q rest takes h =
     let le = h.0 in
     let own = ap (λ (x : OwnersView). x.clock) rest in
     moved_mme s q (world_given slot v (world_of s o)) (given_world slot v s o q rest takes.given) (omega (arith, le, own))
-    (given_kept slot v (world_of s o) h.1) (given_apart slot v (world_of s o) h.2)
+    (given_kept (world_of s o) slot v h.1) (given_apart (world_of s o) slot v h.2)
 given_mme (Err x) slot v s o q rest takes h =
     let le = h.0 in
     let own = ap (λ (x : OwnersView). x.clock) rest in
@@ -260,31 +271,3 @@ full_is_fault answer slot w full = (
   λ is. full_if (is_stocked_at slot w.subscribers) (full.0 is),
   λ fault. full.1 (full_by (is_stocked_at slot w.subscribers) fault),
 )
-
--- ---- one more is provisioned
-
--- whoever isn't refused has a slot
-room_by : (a b c : Bool) (n : ℕ) → nat_le slots n ≡ c
-    → (if a then Some RepeatedImsi else (if b then Some RepeatedAddress else (if c then Some Full else None))) ≡ None → n < slots
-room_by true b c n full none = absurd (cc none)
-room_by false true c n full none = absurd (cc none)
-room_by false false true n full none = absurd (cc none)
-room_by false false false n full none = grind (arith, nat_tests)
-
-not_both : {T E : Type 0} (o : Option E) (x : T) → IfSome o (λ fault. Ok x ≡ Err fault) → o ≡ None
-not_both None x h = refl
-not_both (Some fault) x h = absurd (cc h)
-
-pub has_room : {T : Type 0} (answer : Result T ProvisionFault) (p : Profile) (ps : List Profile)
-    → IfSome (add_fault p ps) (λ fault. answer ≡ Err fault) → OnOk answer (length ps < slots)
-has_room (Ok x) p ps refused =
-    room_by (is_some (slot_of_imsi p.imsi ps)) (is_some (slot_of_address p.address ps)) (nat_le slots (length ps)) (length ps) refl
-    (not_both (add_fault p ps) x refused)
-has_room (Err fault) p ps refused = tt
-
--- the last one has no vectors
-pub none_at_last : (p : Profile) (s : Provisioned) → length s.vectors ≡ length s.profiles
-    → vectors_at (length (with_profile p s).profiles - 1) (with_profile p s).vectors ≡ []
-none_at_last p s many =
-    let longer = length_push s.profiles p in
-    get_or_push s.vectors [] [] (length (s.profiles ++ p ∷ []) - 1) (omega arith)

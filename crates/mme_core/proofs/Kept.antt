@@ -1,6 +1,6 @@
 -- What always holds of an MME holds from its beginning on, and after each event.
 use Rattle.std.proofs.Common.{◌≡◌, ℕ, suc, ◌+◌, ◌==◌, Bool, true, false, cond, List, [], ◌∷◌, length, Option, Some, None, nat_lt, refl, ap, ◌∙◌}
-use Rattle.std.specs.Prelude.{option_map}
+use Rattle.std.specs.Prelude.{map, option_map}
 use Rattle.std.proofs.lemmas.List.{length-replicate}
 use Rattle.sorted_list.specs.Ordered.{Every, put, without}
 use Rattle.identity_slots.specs.declared.profile.Profile.{Profile}
@@ -25,7 +25,7 @@ use Rattle.laws_subscriber.specs.Clocked.{IsClocked, StaysClocked}
 use Rattle.laws_subscriber.specs.Strangers.{IsTimed, StaysTimed}
 use Rattle.mme_core.specs.declared.event.Event.{Event}
 use Rattle.mme_core.specs.declared.event.StepFault.{StepFault}
-use Rattle.mme_core.specs.Kept.{BeginsKept, IsKept, IsKnownTimed, StaysKept}
+use Rattle.mme_core.specs.Kept.{BeginsKept, HasNetwork, IsKept, IsKnownTimed, StaysKept, profile_of}
 use Rattle.mme_core.specs.World.{World, each_after, event_fault, fresh_subscribers, happens, items_of, strangers_in, unless, world_after, world_moved}
 use Rattle.mme_core.proofs.InUse.{each_in_use, fresh_in_use}
 use Rattle.mme_core.proofs.Stations.{placed_many}
@@ -108,6 +108,25 @@ pub as_many_fresh : (n : Network) (slot : ℕ) (ps : List Profile) (vs : List (L
 as_many_fresh n slot [] vs = refl
 as_many_fresh n slot (p ∷ ps) vs = ap suc (as_many_fresh n (slot + 1) ps vs)
 
+profiles_after : (each : ℕ → Item) (n : ℕ) (xs : List SubscriberView) → map profile_of (each_after each n xs) ≡ map profile_of xs
+profiles_after each n [] = refl
+profiles_after each n (x ∷ xs) = ap (λ (ps : List Profile). x.setting.profile ∷ ps) (profiles_after each (n + 1) xs)
+
+networks_after : (m : Network) (each : ℕ → Item) (n : ℕ) (xs : List SubscriberView) → Every (HasNetwork m) xs
+    → Every (HasNetwork m) (each_after each n xs)
+networks_after m each n [] h = tt
+networks_after m each n (x ∷ xs) h = (h.0, networks_after m each (n + 1) xs h.1)
+
+profiles_fresh : (n : Network) (slot : ℕ) (ps : List Profile) (vs : List (List Vector))
+    → map profile_of (fresh_subscribers n slot ps vs) ≡ ps
+profiles_fresh n slot [] vs = refl
+profiles_fresh n slot (p ∷ ps) vs = ap (λ (qs : List Profile). p ∷ qs) (profiles_fresh n (slot + 1) ps vs)
+
+networks_fresh : (n : Network) (slot : ℕ) (ps : List Profile) (vs : List (List Vector))
+    → Every (HasNetwork n) (fresh_subscribers n slot ps vs)
+networks_fresh n slot [] vs = tt
+networks_fresh n slot (p ∷ ps) vs = (refl, networks_fresh n (slot + 1) ps vs)
+
 pub begins_kept : IsInUse fresh_solo → ((s : Setting) → IsSound s fresh_solo) → IsClocked fresh_solo → BeginsKept
 unfolding no_stations
 begins_kept used sound clocked config p = record {
@@ -116,6 +135,8 @@ begins_kept used sound clocked config p = record {
   timed = tt;
   in_use = fresh_in_use used sound clocked config.network 0 p.profiles p.vectors;
   provisioned = as_many_fresh config.network 0 p.profiles p.vectors;
+  profiles = profiles_fresh config.network 0 p.profiles p.vectors;
+  networks = networks_fresh config.network 0 p.profiles p.vectors;
 }
 
 module _ (used : StaysInUse) (sound : StaysSound) (clocked : StaysClocked) (stay : StaysTimed) where
@@ -128,6 +149,8 @@ module _ (used : StaysInUse) (sound : StaysSound) (clocked : StaysClocked) (stay
         timed = timed_next stay w.sight.profiles d w.strangers h.timed;
         in_use = each_in_use used sound clocked items 0 w.subscribers h.in_use;
         provisioned = as_many_after items 0 w.subscribers ∙ h.provisioned;
+        profiles = profiles_after items 0 w.subscribers ∙ h.profiles;
+        networks = networks_after w.sight.config.network items 0 w.subscribers h.networks;
       }
 
   pub stays_kept : StaysKept

@@ -1,6 +1,7 @@
 pub mod Sight
 pub mod World
 pub mod Provisioning
+pub mod Remembered
 pub mod Quiet
 pub mod Ready
 pub mod Projection

@@ -146,6 +146,11 @@ pub record World : Type 0 where
 abbrev pub world_of : Sight → OwnersView → World
 world_of s o = record { sight = s; strangers = o.strangers; subscribers = o.subscribers }
 
+-- an MME of these parts
+abbrev pub parts_world : Config → ℕ → List StationState → List Profile → OwnersView → World
+parts_world config clock stations ps o =
+    world_of (record { config = config; clock = clock; stations = stations; profiles = ps }) o
+
 abbrev pub fresh_world : Config → Provisioned → World
 fresh_world config p = record {
   sight = record { config = config; clock = config.clock; stations = no_stations; profiles = p.profiles };

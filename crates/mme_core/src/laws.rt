@@ -1,7 +1,7 @@
 //! Laws of the definitions: each is the contract of a function that does nothing.
 
-ghost use Rattle.mme_core.specs.Apart.{EventsGoMade, IdsBeginApart, IdsStayApart};
-ghost use Rattle.mme_core.specs.Kept.{BeginsKept, StaysKept};
+ghost use Rattle.mme_core.specs.Apart.{AddedStaysApart, EventsGoMade, GivenStaysApart, IdsBeginApart, IdsStayApart};
+ghost use Rattle.mme_core.specs.Kept.{AddedStaysKept, BeginsKept, GivenStaysKept, StaysKept};
 ghost use Rattle.mme_core.specs.Laws.{Exchanges, GoesAlone, NamedById, NamedByIdentity, NamedByImsi, OneOutput, RepliesSo, SameFromMme, SameToSlot};
 
 use emm_machine::in_use_is_kept;
@@ -21,10 +21,13 @@ pub fn slots_end()
     ensures { GoesAlone }
 {}
 
-/// What always holds of an MME: it begins so, and every list of events keeps it so, whatever octets stations send.
+/// What always holds of an MME: it begins so, and every list of events keeps it so, whatever octets stations send, and so does a
+/// vector or a subscriber more.
 pub fn worlds_are_kept()
     ensures begins { BeginsKept }
     ensures stays { StaysKept }
+    ensures given { GivenStaysKept }
+    ensures added { AddedStaysKept }
 {
     in_use_is_kept();
     soundness_is_kept();
@@ -33,10 +36,13 @@ pub fn worlds_are_kept()
 }
 
 /// No two phones share an association's id (TS 36.413 clause 9.2.3.3): an MME begins so, and every list of events keeps it so,
-/// whatever octets stations send, since a stranger that begins has the id that is made of its station and number.
+/// whatever octets stations send, since a stranger that begins has the id that is made of its station and number; and so does a
+/// vector or a subscriber more.
 pub fn ids_are_apart()
     ensures begins { IdsBeginApart }
     ensures stays { IdsStayApart }
+    ensures given { GivenStaysApart }
+    ensures added { AddedStaysApart }
     ensures goes { EventsGoMade }
 {
     ids_stay_apart();

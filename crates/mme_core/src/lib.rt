@@ -9,6 +9,7 @@ mod config;
 mod event;
 mod laws;
 mod mme;
+mod parts;
 mod provisioned;
 mod provisioning;
 mod station;
@@ -20,3 +21,4 @@ pub use laws::{
 };
 pub use mme::Mme;
 pub use mme_answering::{Out, Outs, Owner};
+pub use parts::MmeParts;

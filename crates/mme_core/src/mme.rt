@@ -56,12 +56,12 @@ const LAST_TICK: u64 = 1 << 62;
 /// What an MME is but for its strangers and subscribers; a contract sees what every owner may see.
 #[derive(Drop)]
 pub(crate) struct Surroundings {
-    config: Config,
-    clock: u64,
-    stations: EnbWorld,
+    pub(crate) config: Config,
+    pub(crate) clock: u64,
+    pub(crate) stations: EnbWorld,
     pub(crate) provision: Provision,
     // the octets of S1 SETUP RESPONSE, if it has a written form
-    setup_response: Option<SentOctets>,
+    pub(crate) setup_response: Option<SentOctets>,
     // the network, as all subscribers share it
     pub(crate) shared: SharedNetwork,
     pub(crate) alloc: Global,
@@ -90,7 +90,7 @@ pub struct Mme {
     pub(crate) surroundings: Surroundings,
     pub(crate) owners: Owners,
     // room for what is sent next; what it has means nothing
-    room: Outs,
+    pub(crate) room: Outs,
 }
 
 impl Model for Mme {

@@ -22,8 +22,8 @@ pub(crate) fn slot_of(place: usize) -> Slot
     Slot::new(place as u32)
 }
 
-// A network, to be shared.
-fn share(alloc: Global, network: &Network) -> Result<SharedNetwork, AllocError>
+/// A network, to be shared.
+pub(crate) fn share(alloc: Global, network: &Network) -> Result<SharedNetwork, AllocError>
     ensures { IfOk result (λ s. s ≡ network.now) }
 {
     SharedNetwork::new(alloc, network.clone()?)

@@ -5,8 +5,7 @@ use Rattle.std.proofs.lemmas.Option.{slice_get-map, slice_get_read}
 use Rattle.emm_state.specs.declared.solo.Solo.{Solo}
 use Rattle.emm_state.specs.Taking.{IsOnward, vectors_spent}
 use Rattle.emm_machine.specs.SubscriberView.{SubscriberView}
-use Rattle.emm_machine.specs.Ticks.{solo_aged}
-use Rattle.emm_machine.specs.TickLaws.{ticks_are_aged}
+use Rattle.emm_machine.specs.TickLaws.{spent_aged, ticks_are_aged}
 use Rattle.mme_owners.specs.declared.record.Record.{Record}
 use Rattle.mme_owners.specs.SteppedView.{SteppedView}
 use Rattle.mme_owners.specs.Changed.{changed_at}
@@ -53,15 +52,11 @@ onward_same ws vs (x ∷ xs) e h =
 
 -- ---- ticks that end no countdown spend none
 
-aged_spent : (n : ℕ) (solo : Solo) → vectors_spent (solo_aged n solo) ≡ vectors_spent solo
-unfolding solo_aged
-aged_spent n solo = refl
-
 views_spent : (c : ℕ) (rs : List Record) → AreFresh c rs → all_spent (views c rs) ≡ all_spent (touched_views rs)
 views_spent c [] f = refl
 views_spent c (r ∷ rs) f =
     let n = c - r.touched in
-    let own = ap vectors_spent (ticks_are_aged r.subscriber.setting n r.subscriber.solo f.0.above) ∙ aged_spent n r.subscriber.solo in
+    let own = ap vectors_spent (ticks_are_aged r.subscriber.setting n r.subscriber.solo f.0.above) ∙ spent_aged n r.subscriber.solo in
     ap (λ m. m ∷ all_spent (views c rs)) own ∙ ap (λ ns. vectors_spent r.subscriber.solo ∷ ns) (views_spent c rs f.1)
 
 pub onward_touched : (c : ℕ) (rs : List Record) (xs : List SteppedView) → AreFresh c rs → AreOnward (views c rs) xs

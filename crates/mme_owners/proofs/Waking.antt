@@ -335,6 +335,13 @@ states_seen c k rs r t lt e =
     ap (option_map (λ (w : SubscriberView). states_of w.solo)) (view_slot c k rs r lt e)
     ∙ ap (λ s. Some (states_of s)) (seen_aged c r f) ∙ ap Some (states_aged (c - r.touched) r.subscriber.solo)
 
+pub lent_seen : (c k : ℕ) (rs : List Record) (r : Record) → IsSubscriberTable c rs → k < length rs → r ≡ get_or rs k r
+    → slice_get (views c rs) k
+    ≡ Some (record { setting = r.subscriber.setting; solo = solo_aged (c - r.touched) r.subscriber.solo })
+lent_seen c k rs r t lt e =
+    let f = fresh_slot c k rs r t.fresh lt e in
+    view_slot c k rs r lt e ∙ ap (λ (s : Solo). Some (record { setting = r.subscriber.setting; solo = s })) (seen_aged c r f)
+
 idle_aged : (n : ℕ) (solo : Solo) (m : UeMessage (List ℕ)) (body : UeBody (List ℕ))
     → is_idle body m (solo_aged n solo) ≡ is_idle body m solo
 unfolding solo_aged

@@ -6,5 +6,6 @@ pub mod SteppedView
 pub mod Records
 pub mod Changed
 pub mod Given
+pub mod Lent
 pub mod Matching
 pub mod Touched

@@ -9,6 +9,7 @@
 //! strangers that wait, no more and no fewer.
 #![tactic(auto)]
 
+mod lent;
 mod owners;
 mod placing;
 mod record;
@@ -18,6 +19,7 @@ mod spare;
 mod stepped;
 mod subscribers;
 
+pub use lent::LentSubscriber;
 pub use mme_tables::Due;
 pub use owners::Owners;
 pub use records::Records;

@@ -16,9 +16,11 @@ ghost use Rattle.mme_tables.specs.Waiting.{due_ids};
 ghost use Rattle.mme_owners.specs.Subscribers.{due_slots, one_less, slots_stepped, tick_settled, with_solo, with_stepped, AreCounting, AreOnward, IsCounting, IsOnwardAt};
 ghost use Rattle.mme_owners.specs.Touched.{all_whereabouts, touched_slots, whereabouts, KeepsPlace};
 ghost use Rattle.mme_owners.specs.Given.{TakesOneVector};
+ghost use Rattle.mme_owners.specs.Lent.{lent_now};
 ghost use Rattle.mme_owners.specs.Owners.{with_one, IsFitIf, IsFreeIf, IsWaitAfter, NobodyIsDue};
 ghost use Rattle.mme_owners.specs.Placed.{AreApart, IsOn, NoneWaitsIf};
 
+use crate::lent::LentSubscriber;
 use crate::placing::{leave, place, place_all, place_of};
 use crate::records::Records;
 use crate::stepped::Stepped;
@@ -57,12 +59,13 @@ impl Model for Owners {
     ghost invariant = { λ t. ArePlaced t.records.strangers t.records.subscribers t.connections };
 }
 
-// The station of a notice.
+// The station of a notice of a station.
 fn noted_station(notice: &Notice) -> u8
+    requires { is_of_station notice.now ≡ true }
     ensures { result ≡ noted_station notice.now }
 {
     match notice {
-        Notice::Tick => 0,
+        Notice::Tick => unreachable!(),
         Notice::Gone(station) | Notice::Listed(station, _) => station.get(),
     }
 }
@@ -169,6 +172,13 @@ impl Owners {
         ensures { result ≡ option_map (λ w. states_of w.solo) (slice_get self.now.subscribers slot) }
     {
         self.records.states(slot)
+    }
+
+    /// The subscriber of a slot, if it is somebody's, as it was when it was touched, and the ticks since then. Takes no memory.
+    pub fn look<'a>(&'a self, slot: Slot) -> Option<LentSubscriber<'a>>
+        ensures { option_map lent_now result ≡ slice_get self.entry.now.subscribers slot }
+    {
+        self.records.subscribers.look(slot)
     }
 
     /// Whether the next tick ends somebody's countdown. Only the front of the queue is looked at; takes no memory.

@@ -10,9 +10,11 @@ ghost use Rattle.emm_machine.specs.Words.{states_of};
 ghost use Rattle.sorted_list.specs.Ordered.{Every};
 ghost use Rattle.mme_owners.specs.Changed.{changed_at};
 ghost use Rattle.mme_owners.specs.Given.{TakesOneVector};
+ghost use Rattle.mme_owners.specs.Lent.{lent_now};
 ghost use Rattle.mme_owners.specs.Records.{renewed, touched_views, views, with_records, IsSubscriberTable};
 ghost use Rattle.mme_owners.specs.Subscribers.{countdowns_at, due_slots, slots_stepped, step_at, tick_settled, with_solo, with_stepped, AreCounting, AreOnward, IsCounting, IsOnwardAt};
 
+use crate::lent::LentSubscriber;
 use crate::record::Record;
 use crate::spare::{Spares, free};
 use crate::stepped::Stepped;
@@ -162,6 +164,22 @@ impl Subscribers {
             return None;
         }
         Some(self.records[place].subscriber.states())
+    }
+
+    /// The subscriber of a slot, if it is somebody's, as it was when it was touched, and the ticks since then. Takes no memory.
+    pub fn look<'a>(&'a self, slot: Slot) -> Option<LentSubscriber<'a>>
+        ensures { option_map lent_now result ≡ slice_get self.entry.now.subscribers slot }
+    {
+        let clock = self.clock;
+        let place = slot.get() as usize;
+        if place >= self.records.len() {
+            return None;
+        }
+        let own = &self.records[place];
+        Some(LentSubscriber {
+            subscriber: &own.subscriber,
+            slept: clock - own.touched,
+        })
     }
 
     /// Whether a message leaves a slot's subscriber as it is and nothing is sent for it, by a look at the connection; takes no

@@ -1,4 +1,4 @@
-use Rattle.std.proofs.Common.{◌∙◌, ap, subst, sym, ◌<◌, ℕ}
+use Rattle.std.proofs.Common.{subst, sym, ◌<◌, ℕ}
 use Rattle.identity_slots.proofs.Forgetting.{first_next}
 use Rattle.identity_slots.proofs.vectors.forget_all.Goals as goal
 

@@ -1,8 +1,8 @@
 -- `new` makes a struct without octets, with the items that its clause names. Assumes `Logic`.
-use Rattle.std.proofs.Common.{List, [], ◌∷◌, ◌++◌, refl}
+use Rattle.std.proofs.Common.{[], ◌∷◌, refl}
 use seplogic.Ra.Ura.{Ura}
 use mir.Syntax.{Fn, Args, a_type}
-use mir.Val.{Val, vptr}
+use mir.Val.{Val}
 use mir.MapTy.{inst_fn}
 use base.Logic.{SProp, ent}
 use prog.Memory.{Memory}
@@ -12,23 +12,21 @@ use contract.Monad.{Fun}
 use contract.Running.{tables, tables_of}
 use sound.WpLaws.{WpFn-mono}
 use types.Logic.{Logic}
-use types.Kit.{‵, raw, ◌⊛◌, prop, ◌$◌, ◌∵◌, !, qed, move, keep, drop, split, fsplit, fjoin, feq_l, regoal, suffices, done}
+use types.Kit.{‵, raw, ◌⊛◌, ◌$◌, ◌∵◌, !, qed, move, keep, split, fjoin, suffices, done}
 use types.Part.{agg}
 use types.Run.{enter, returns, and_then, no_more}
 use types.ByLocal.{alloc_all, pass_all, free_all, look_at, get, sets}
-use denote.Exit.{yes}
 use denote.RattleType.{RattleType, owns}
-use denote.Builtin.{RefOf}
 use denote.Laws.{Is}
 use denote.Param.{param, layouts}
-use denote.Signature.{plain, types_at}
+use denote.Signature.{types_at}
 use denote.Steps.{nothing, owned}
 use denote.Struct.Laws.{makes}
 use denote.Triple.Clauses.{Clauses, Ended, closing}
 use denote.Triple.Entry.{alive}
 use denote.Triple.Spec.{Meets, triple_of}
 use denote.Triple.Table.{entered}
-use denote.Triple.Walked.{says, Stays, stay_dropped, walk_of, ends_at, walk_Meets, Goes-dropped}
+use denote.Triple.Walked.{says, Stays, walk_of, ends_at, walk_Meets}
 use Rattle.std.specs.contracts.marker.PhantomData as Mark
 use Rattle.identity_slots.proofs.HistoryValues.{none, one, one_made}
 use Rattle.identity_slots.specs.contracts.history.History as History

@@ -5,9 +5,9 @@ use Rattle.emm_state.specs.declared.setting.Setting.{Setting}
 use Rattle.emm_state.specs.declared.solo.Context.{Context}
 use Rattle.emm_state.specs.declared.solo.Solo.{Solo}
 use Rattle.emm_state.specs.Taking.{vectors_spent}
+use Rattle.emm_machine.specs.Given.{having}
 use Rattle.emm_machine.specs.SubscriberView.{SubscriberView}
 use Rattle.mme_core.specs.World.{World}
-use Rattle.laws_mme.specs.Looks.{having}
 
 -- what stands for a vector that is spent
 abbrev pub husk : List ℕ → Vector
