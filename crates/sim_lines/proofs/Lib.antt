@@ -1,4 +1,3 @@
 pub mod Printing
 pub mod Faults
 pub mod Further
-pub mod Playing

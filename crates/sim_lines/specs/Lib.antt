@@ -1,5 +1,3 @@
-pub mod Turns
-pub mod Plays
 pub mod Events
 pub mod Faults
 pub mod Further

@@ -1,5 +1,4 @@
 pub mod Printed
-pub mod Shown
 pub mod Stopped
 pub mod LineLaws
 pub mod PrintLaws
