@@ -1,7 +1,7 @@
 #!/usr/bin/env python3
 """Runs the gate, or another command, and prints the processor time that each crate took in it: proof, tests, edits, guards.
 
-    python3 bench/gate.py                                 runs .ci/run
+    python3 bench/gate.py                                 runs .ci/run --anew
     taskset -c 0,1 python3 bench/gate.py                  the same on two processors
     python3 bench/gate.py -- rt must-fail identity_slots  runs another command
 
@@ -100,7 +100,7 @@ def table(spent):
 
 def main():
     parser = argparse.ArgumentParser(description=__doc__, formatter_class=argparse.RawDescriptionHelpFormatter)
-    parser.add_argument("command", nargs="*", default=[".ci/run"])
+    parser.add_argument("command", nargs="*", default=[".ci/run", "--anew"])
     words = parser.parse_args().command
     spent, began = {}, time.monotonic()
     child = subprocess.Popen(words, cwd=TOP, stdout=sys.stderr)

@@ -11,6 +11,7 @@ from tools.program.words import Failed
 
 TOP = pathlib.Path(__file__).resolve().parent.parent
 KEPT = ".txt"  # what the name of a source has more outside crates/
+ROOT = "main.rt"
 
 
 def libraries():
@@ -19,14 +20,26 @@ def libraries():
     return {word for line in lines if not line.startswith("#") for word in line.replace(":", " ").split()}
 
 
+def sources_below(folder):
+    """The sources in a folder and below it, by their places in a crate's src/."""
+    found = {source.relative_to(folder): source for source in sorted(folder.rglob("*.rt" + KEPT))}
+    return {str(place).removesuffix(KEPT): source for place, source in found.items()}
+
+
+def as_module(name, sources):
+    """The sources of a program by the places that they have as a module of this name: its root is the module itself."""
+    return {name + ".rt" if place == ROOT else "%s/%s" % (name, place): source for place, source in sources.items()}
+
+
 def used(sources):
     """The libraries whose items the sources name."""
-    named = {word for source in sources for word in re.findall(r"\b(\w+)::", source.read_text(encoding="utf-8"))}
+    named = {word for source in sources.values() for word in re.findall(r"\b(\w+)::", source.read_text(encoding="utf-8"))}
     return sorted(named & libraries())
 
 
 def with_crate(folder, name, sources):
-    """Makes the repository in an empty folder, with a crate of this name and these sources. Returns the crate's folder."""
+    """Makes the repository in an empty folder, with a crate of this name, whose sources are given by their places in its src/.
+    Returns the crate's folder."""
     shutil.copy(TOP / "HANDLES", folder)
     crates = (TOP / "crates.txt").read_text(encoding="utf-8")
     (folder / "crates.txt").write_text("%s%s: %s\n" % (crates, name, " ".join(used(sources))), encoding="utf-8")
@@ -36,8 +49,9 @@ def with_crate(folder, name, sources):
                 shutil.copytree(crate / part, folder / "crates" / crate.name / part)
     code = folder / "crates" / name / "src"
     code.mkdir(parents=True)
-    for source in sources:
-        shutil.copy(source, code / source.name.removesuffix(KEPT))
+    for place, source in sources.items():
+        (code / place).parent.mkdir(exist_ok=True)
+        shutil.copy(source, code / place)
     subprocess.run(["git", "init", "-q", folder], check=True)  # where rt's search for the top ends
     return code.parent
 

@@ -1,17 +1,17 @@
 """Trials of guards, each by the proof of the function that it names, and of edits that were added since a commit."""
 import os
 import re
-import tempfile
 import threading
 from concurrent.futures import ThreadPoolExecutor
 
 from tests.beside import BETWEEN_LOOKS, proved_in
+from tests.editing.granted import BUT_FOR_HOLES, all_but
 from tests.editing.records import added_since, changed, crate_names, digest_of, edits_of, function_of, guards_of, record, text_of
 from tests.editing.trials import GIGABYTES_OF_A_CHECK, Trial, free_gigabytes, prover
 from tests.editing.verdicts import SAID, is_own_refusal
 
 # The last line of a check of some functions alone.
-SOME_CHECKED = re.compile(r"^only=(\d+) proved=(\d+)\b")
+SOME_CHECKED = re.compile(r"^only=(\d+) (?:proved|holes)=(\d+)\b")
 
 
 def guard_batches(guards):
@@ -26,9 +26,9 @@ def guard_batches(guards):
     return batches
 
 
-def try_guards_of(rt, crate, guards, kept=None):
-    """Tries guards of different functions of a crate in one check, of their functions and those that these call, over what a folder
-    keeps if one is given; gives of each whether it is refused, and a line that says so.
+def try_guards_of(rt, crate, guards):
+    """Tries guards of different functions of a crate in one check of these functions, where all others are granted; gives of each whether
+    it is refused, and a line that says so.
 
     A function is proved by the contracts of those that it calls and not by their bodies, so what one guard makes wrong refuses no other."""
     functions = [function_of(guard) for guard in guards]
@@ -36,28 +36,23 @@ def try_guards_of(rt, crate, guards, kept=None):
     texts, why = rt.edited("\n".join(map(text_of, guards)), crate.folder)
     if why:
         return [(False, f"{label}: NOT TRIED: {why}") for label in labels]
-    ran = rt.checked(crate, texts, [*Trial.flags, *(word for function in functions for word in ("--only", function))], kept)
+    with all_but(crate, functions) as (own, asked):
+        only = [word for function in functions for word in ("--only", function)]
+        ran = rt.checked(own, texts, [*Trial.flags, *only, *asked], None)
     lines = ran.stdout.rstrip("\n").split("\n")
     ended = ran.returncode in (0, 1) and SOME_CHECKED.match(lines[-1]) and not any(rt.unread(line, texts) for line in lines)
     found = []
     said = dict(SAID.findall(ran.stdout)) if ended else {}
     for function, label in zip(functions, labels):
         verdict = said.get(f"{crate.name}::{function}")
-        if is_own_refusal(verdict):
+        if is_own_refusal(verdict) and not verdict.startswith(BUT_FOR_HOLES):
             found.append((True, f"{label}: refused, as it must be, by the proof of {function}"))
-        elif verdict == "proved":
+        elif verdict and (verdict == "proved" or verdict.startswith(BUT_FOR_HOLES)):
             found.append((False, f"{label}: NOT REFUSED: {function} is still proved with this edit"))
         else:
             last = "\n".join(lines[-6:])
             found.append((False, f"{label}: NOT TRIED: the check of {function} ended with status {ran.returncode}:\n{last}"))
     return found
-
-
-def try_batches(rt, crate, batches):
-    """Tries lists of guards of a crate one after the other, each over what those before it proved of the functions that they call."""
-    with tempfile.TemporaryDirectory(prefix="guards-") as kept:
-        for batch in batches:
-            yield from try_guards_of(rt, crate, batch, kept if len(batches) > 1 else None)
 
 
 def try_in_turn(rt, crate, batches, places, is_alone):
@@ -69,9 +64,10 @@ def try_in_turn(rt, crate, batches, places, is_alone):
     while free_gigabytes() < GIGABYTES_OF_A_CHECK and not is_alone.wait(BETWEEN_LOOKS):
         pass
     passed = 0
-    for refused, text in try_batches(rt, crate, batches):
-        print(f"edits: {text}", flush=True)
-        passed += refused
+    for batch in batches:
+        for refused, text in try_guards_of(rt, crate, batch):
+            print(f"edits: {text}", flush=True)
+            passed += refused
     if placed:
         places.release()
     return passed

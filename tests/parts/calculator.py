@@ -3,11 +3,14 @@
 kept.
 
     calculator.py          reads calls from standard input
-    calculator.py --help   prints which there are
+    calculator.py again    plays a trace from standard input, and makes each call again that memory was refused to
+    calculator.py brief    runs each benchmark of bench/ briefly, `steps` over the trace of standard input
+    calculator.py --help   prints which calls there are
 
-Its sources stand in calculator/. It is a program of tests alone, built unproved and with every access checked, and so that any of
-its allocations can be refused (tests/refused/unproved.py). It is kept in calculator/out under the digest of all that it is made of;
-where several ask for it at once, one builds it and the others wait.
+Its sources stand in calculator/, and in bench/ those of the benchmarks, which are a module of it, so that tests build one program for
+all that they run unproved. It is built with every access checked, and so that any of its allocations can be refused
+(tests/refused/unproved.py). It is kept in calculator/out under the digest of all that it is made of; where several ask for it at
+once, one builds it and the others wait.
 """
 import fcntl
 import functools
@@ -20,7 +23,7 @@ HERE = pathlib.Path(__file__).resolve().parent
 TOP = HERE.parent.parent
 if __name__ == "__main__":
     sys.path[0] = str(TOP)
-from bench import repository
+from bench import programs, repository
 from tools.program import tried
 from tools.program.words import Failed
 
@@ -33,13 +36,13 @@ LONG_RUN = b"s1ap_turned 000f40080000010002400130\n" * 10000
 
 
 def sources():
-    """Its sources, each a module; `main` is its root."""
-    return sorted(FOLDER.glob("*.rt" + repository.KEPT))
+    """Its sources by their places in its src/."""
+    return {**repository.sources_below(FOLDER), **repository.as_module(programs.NAME, programs.sources())}
 
 
 def digest():
     """The SHA-256 of all that it is made of."""
-    texts = [(source.name, source.read_bytes()) for source in sources()]
+    texts = [(place, source.read_bytes()) for place, source in sources().items()]
     return tried.digest(repository.used(sources()), texts, WORDS)
 
 

@@ -1,13 +1,9 @@
-"""Each allocation refused in turn: to `mme play` and `mme sim`, to the calculator's calls, and to a program that makes each refused
-call again.
+"""Each allocation refused in turn: to `mme play` and `mme sim`, to the calculator's calls, and to the calculator as it makes each
+refused call again.
 """
 import collections
-import itertools
-from concurrent.futures import ThreadPoolExecutor
 
 NO_MEMORY = b"mme: out of memory\n"
-# So many runs in a row in which no call was refused mean that the last allocation is passed.
-SILENT = 40
 REFUSED_LINE, REFUSED_CALL = "wrong line: out of memory", "fault NoMemory"
 # Who was refused, where it is no call.
 OWN, NOBODY = "the program's own", "nobody"
@@ -30,13 +26,6 @@ def played(shim, words, given, wanted):
     return counts.allocations, whole, otherwise
 
 
-def each_refused(program, given):
-    """A run with ample memory, as that of allocation 0, and one in which each allocation is refused, in turn; without an end."""
-    with ThreadPoolExecutor(program.lanes) as pool:
-        for first in itertools.count(0, SILENT):
-            yield from enumerate(pool.map(lambda number: program.ran(given, number), range(first, first + SILENT)), first)
-
-
 def asked(calls):
     """What the calculator reads."""
     return "".join(call + "\n" for call in calls).encode()
@@ -57,7 +46,7 @@ class Calculated:
 
     def answers_without(self, place):
         if place not in self.without:
-            ran = self.program.ran(asked(self.calls[:place] + self.calls[place + 1:]), 0)
+            ran = self.program.ran(asked(self.calls[:place] + self.calls[place + 1:]))
             self.without[place] = ran.output.decode().splitlines()
         return self.without[place]
 
@@ -84,33 +73,27 @@ class Calculated:
 
     def faults(self):
         """How many allocations there were, and what went otherwise."""
-        otherwise, silent = [], 0
-        for refused, ran in each_refused(self.program, asked(self.calls)):
+        otherwise, refused = [], 0
+        for refused, ran in enumerate(self.program.each_refused(asked(self.calls))):
             who, fault = self.judged(ran)
             if not refused and (fault or who != NOBODY):
                 return 0, ["with ample memory: %s" % (fault or "%s was refused" % who)]
             if fault:
                 otherwise.append("allocation %d: %s" % (refused, fault))
-            silent = silent + bool(refused) if who == NOBODY else 0
             self.told[who] += bool(refused)
-            if silent == SILENT:
-                self.told[NOBODY] -= silent
-                return refused - silent, otherwise
+        return refused, otherwise
 
 
 def called_again(program, given, wanted):
-    """A run of the program of calls/ for each of its allocations: how many there were, the calls that were refused, and what
+    """A run that makes refused calls again for each of its allocations: how many there were, the calls that were refused, and what
     went otherwise. It prints the answers, whatever is refused, and one call alone is told."""
-    otherwise, calls, silent = [], collections.Counter(), 0
-    for refused, ran in each_refused(program, given):
+    otherwise, calls, refused = [], collections.Counter(), 0
+    for refused, ran in enumerate(program.each_refused(given)):
         told = ran.text.decode().split("\n")[:-1]
         if ran.output != wanted or ran.status or len(told) > bool(refused):
             otherwise.append("allocation %d: status %d, told %s, %s" % (
                 refused, ran.status, told[:3], "the answers" if ran.output == wanted else repr(ran.output[-60:])))
             if not refused:
                 return 0, calls, otherwise
-        silent = 0 if told else silent + bool(refused)
         calls[told[0] if told else NOBODY] += bool(refused)
-        if silent == SILENT:
-            calls[NOBODY] -= silent
-            return refused - silent, calls, otherwise
+    return refused, calls, otherwise

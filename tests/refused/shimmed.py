@@ -1,6 +1,5 @@
 """Programs with shim.c: allocations, reads and writes that are refused or go octet by octet."""
 import collections
-import os
 import pathlib
 import subprocess
 
@@ -12,12 +11,18 @@ Ran = collections.namedtuple("Ran", "output text status")
 Counts = collections.namedtuple("Counts", "allocations reads writes")
 
 
+def built(folder, name, *words):
+    """A library to be loaded into a program, built of NAME.c in a folder."""
+    library = pathlib.Path(folder, name + ".so")
+    subprocess.run(["cc", "-O2", "-shared", "-fPIC", *words, "-o", library, HERE / (name + ".c")], check=True)
+    return library
+
+
 class Shim:
     """The library built in a folder, and runs of programs with it."""
 
     def __init__(self, folder):
-        self.library, self.counts_file = os.path.join(folder, "shim.so"), os.path.join(folder, "counts")
-        subprocess.run(["cc", "-O2", "-shared", "-fPIC", "-o", self.library, HERE / "shim.c"], check=True)
+        self.library, self.counts_file = str(built(folder, "shim")), str(pathlib.Path(folder, "counts"))
         self.runs = 0
 
     def ran(self, words, given, **refusals):

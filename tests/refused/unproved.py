@@ -1,63 +1,51 @@
-"""Programs that are built unproved and with every access checked, of which any allocation can be refused, as `rt try --fail-alloc`
-builds them; and the one of calls/.
+"""The calculator (tests/parts/calculator.py) with each of its allocations refused, as `rt try --fail-alloc` builds it.
 
 `rt try` builds anew for each number of an allocation that is to be refused. The number stands as a constant in what is built, so
-that it is built once, and the constant set for each run.
+that it is built once; refusing.c takes the place of the comparisons with it.
 """
 import os
-import queue
-import re
-import struct
+import pathlib
 import subprocess
-import threading
+import tempfile
 
-from bench import repository
-from tests.refused.shimmed import HERE, TOP, Ran
+from tests.parts import calculator
+from tests.refused import shimmed
 from tools.program import tried
 from tools.program.words import Failed
 
-PATIENCE = 1800  # seconds for one run, which gives way to all else in the gate
-NAME = "refused_calls"
-WORDS = ["--steps", "100", "--fail-alloc", str(tried.NONE)]
-
-
-def compared(number):
-    """The comparison with a number of four octets (`cmp imm32, %rax`)."""
-    return b"\x48\x3d" + struct.pack("<i", number)
-
-
-def made_of_calls(folder):
-    """The octets of the program of calls/, taken to a folder from where it runs over many ticks."""
-    trace, target = (TOP / "tests" / "rows" / "setup.trace").read_bytes() + b"tick 1000000\n", folder / "taken"
-    repository.build(NAME, sorted((HERE / "calls").iterdir()), WORDS, trace, target)
-    return target.read_bytes()
+AGAIN = "again"  # the calculator's word for making each refused call again
+PATIENCE = 3600  # seconds for all runs on one input, which give way to all else in the gate
 
 
 class Program:
-    """A program, as copies in a new folder: one for each lane."""
+    """The calculator with some words."""
 
-    def __init__(self, octets, folder):
-        folder.mkdir()
-        self.places = [at.start() for at in re.finditer(re.escape(compared(tried.NONE)), octets)]
-        if not self.places:
-            raise Failed("the program has no number of an allocation that is refused")
-        self.lanes, self.free, self.starting = len(os.sched_getaffinity(0)), queue.SimpleQueue(), threading.Lock()
-        for lane in range(self.lanes):
-            copy = folder / str(lane)
-            copy.write_bytes(octets)
-            copy.chmod(0o700)
-            self.free.put(copy)
+    def __init__(self, folder, *words):
+        self.words = [calculator.program(), *words]
+        self.library = shimmed.built(folder, "refusing", "-DNONE=%d" % tried.NONE)
 
-    def ran(self, given, refused):
-        """A run in which this allocation is refused, or none at 0; as many at once as there are lanes."""
-        copy = self.free.get()
-        # (a program that is started has the files that are open in any lane until it begins, and none that is written can be started)
-        with self.starting:
-            with open(copy, "r+b") as file:
-                for place in self.places:
-                    file.seek(place)
-                    file.write(compared(refused or tried.NONE))
-            run = subprocess.Popen([copy], stdin=subprocess.PIPE, stdout=subprocess.PIPE, stderr=subprocess.PIPE)
-        output, text = run.communicate(given, PATIENCE)
-        self.free.put(copy)
-        return Ran(output, text, run.returncode)
+    def ran(self, given):
+        """A run with ample memory."""
+        done = subprocess.run(self.words, input=given, capture_output=True, timeout=PATIENCE, check=False)
+        return shimmed.Ran(done.stdout, done.stderr, done.returncode)
+
+    def each_refused(self, given):
+        """A run with ample memory, and one for each of its allocations, in turn, in which that one is refused."""
+        with tempfile.TemporaryDirectory() as name:
+            folder = pathlib.Path(name)
+            status = self.status_in(folder, given)
+            statuses = dict(map(int, line.split()) for line in (folder / "statuses").read_text().splitlines())
+            if not statuses or sorted(statuses) != list(range(1, len(statuses) + 1)):
+                raise Failed("status %d, and not one for each allocation: %s" % (status, sorted(statuses)))
+            for number, status in sorted({0: status, **statuses}.items()):
+                output, text = ((folder / ("%s.%d" % (file, number))).read_bytes() for file in ("output", "text"))
+                yield shimmed.Ran(output, text, status)
+
+    def status_in(self, folder, given):
+        """Makes these runs, whose files stand in the folder then; the status of the one with ample memory."""
+        (folder / "given").write_bytes(given)
+        environment = {**os.environ, "LD_PRELOAD": str(self.library)}
+        with (open(folder / "given", "rb") as read, open(folder / "output.0", "wb") as output,
+              open(folder / "text.0", "wb") as text):
+            return subprocess.run(self.words, cwd=folder, env=environment, stdin=read, stdout=output, stderr=text, timeout=PATIENCE,
+                                  check=False).returncode

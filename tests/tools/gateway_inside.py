@@ -24,8 +24,9 @@ import unittest
 
 if __name__ == "__main__":
     sys.path[0] = str(pathlib.Path(__file__).resolve().parents[2])
-from tests.tools.gateway_world import (ADDRESS, GATEWAY, INTERNET, MACHINE, NET, PAGE_OF_FRONT, PATIENCE, QUIET, STATIONS, Phone, World,
-                                       checksum, gtpu, inside, lay, links, load_modules, lte, packet, phones, sh, until)
+from tests.tools.gateway_world import (ADDRESS, FRONT_UNIT, GATEWAY, GATEWAY_UNIT, INTERNET, MACHINE, NET, PAGE_OF_FRONT, PATIENCE,
+                                       QUIET, STATIONS, Phone, World, capabilities_of, checksum, gtpu, inside, lay, links,
+                                       load_modules, lte, packet, phones, sh, until)
 from tests.tools.sctp_inside import Named, name_of
 from tests.tools.test_lab import DOCUMENT as LAB
 from tests.tools.test_lab import blocks
@@ -36,6 +37,7 @@ MUTATIONS = 10000
 OCTETS = 20_000_000  # of a transfer by TCP
 PORTS = itertools.count(5000)
 EVERY, OFTEN = 0.02, 0.001  # seconds between two packets of a flow
+CAPABILITIES = {"CAP_NET_ADMIN": 12}  # their numbers (linux/capability.h)
 TRANSPORT = (1, 1), 0  # the cause transport-resource-unavailable (TS 36.413 clause 9.2.1.3): a group, its width, and a number
 
 
@@ -177,6 +179,14 @@ class Whole(unittest.TestCase):
             plane.is_echoed(0x4321)
             plane.has_heard_all()
         self.assertEqual(select.select([sink], [], [], QUIET)[0], [])
+
+    def test_capabilities(self):
+        """The gateway and the front have those that their units give them, and no other: so in all tests here."""
+        for process, unit in ((self.world.keeper.process, GATEWAY_UNIT), (self.world.front, FRONT_UNIT)):
+            status = pathlib.Path("/proc/%d/status" % process.pid).read_text()
+            found = dict(re.findall(r"^(CapPrm|CapEff|CapBnd|NoNewPrivs):\s+(\w+)$", status, re.MULTILINE))
+            given = "%016x" % sum(1 << CAPABILITIES[name] for name in capabilities_of(unit))
+            self.assertEqual(found, {"CapPrm": given, "CapEff": given, "CapBnd": given, "NoNewPrivs": "1"})
 
     # Packets pass.
 

@@ -4,6 +4,7 @@ import contextlib
 import ctypes
 import os
 import pathlib
+import re
 import select
 import signal
 import socket
@@ -22,6 +23,7 @@ from tools.tunnels import contexts, gtpu, links
 PROGRAM = tools.TOP / "crates" / "mme" / "out" / "mme"
 # The tools need nothing but Python's own library, and without looking for more they begin sooner.
 FRONT, GATEWAY = ([sys.executable, "-S", tools.TOP / "tools" / name] for name in ("front", "gateway"))
+FRONT_UNIT, GATEWAY_UNIT = (tools.TOP / "deploy" / ("%s@.service" % name) for name in ("soizkadur", "soizkadur-gateway"))
 ADDRESS, INTERNET, PREFIX = "10.0.0.100", "198.51.100.2", "10.45.0.0/16"
 STATIONS = ("10.1.0.2", "10.2.0.2")
 MACHINE, NET = "core", "net"
@@ -34,6 +36,17 @@ NEW_NETWORK = 0x40000000  # sched.h: CLONE_NEWNET
 LIBC = ctypes.CDLL(None, use_errno=True)
 S1AP_PORT, S1AP = 36412, 18
 PAGE, PAGE_OF_FRONT = 9200, 9100  # ports of the pages of the gateway and of the front
+
+
+def capabilities_of(unit):
+    """The capabilities that a unit's service may have, by their names."""
+    return re.search("^CapabilityBoundingSet=(.*)$", unit.read_text(encoding="utf-8"), re.MULTILINE)[1].split()
+
+
+def with_rights_of(unit):
+    """How a command begins that has the capabilities of a unit's service, and none that the unit doesn't give."""
+    kept = ["+" + name.removeprefix("CAP_").lower() for name in capabilities_of(unit)]
+    return ["setpriv", "--no-new-privs", "--bounding-set=" + ",".join(["-all", *kept])]
 
 
 def sh(text):
@@ -266,7 +279,8 @@ def made_vectors(slot, count):
 
 
 class Keeper:
-    """In the service manager's place: begins the gateway, hears that it is ready, and keeps its files while it is away."""
+    """In the service manager's place: begins the gateway with the unit's capabilities, hears that it is ready, and keeps its files
+    while it is away."""
 
     def __init__(self, folder):
         self.path, self.files, self.process, self.is_ready = str(folder / "notify"), {}, None, threading.Event()
@@ -293,7 +307,8 @@ class Keeper:
         self.is_ready.clear()
         names = list(self.files)
         given = "exec %s\n" % " ".join("%d<&%d" % (3 + at, self.files[name]) for at, name in enumerate(names)) if names else ""
-        command = ["ip", "netns", "exec", MACHINE, "bash", "-c", given + 'LISTEN_PID=$$ exec "$@"', "bash", *GATEWAY, *words]
+        command = ["ip", "netns", "exec", MACHINE, "bash", "-c", given + 'LISTEN_PID=$$ exec "$@"', "bash",
+                   *with_rights_of(GATEWAY_UNIT), *GATEWAY, *words]
         self.process = subprocess.Popen(list(map(str, command)), stderr=subprocess.PIPE, pass_fds=list(self.files.values()), env={
             **os.environ, "NOTIFY_SOCKET": self.path, "LISTEN_FDS": str(len(names)), "LISTEN_FDNAMES": ":".join(names)})
         threading.Thread(target=self.read, args=(self.process,), daemon=True).start()
@@ -369,7 +384,8 @@ class World:
         given = ["run", self.subscribers, self.log, "--listen", ADDRESS, "--mme", PROGRAM, "--per-address", "8", "--second",
                  LONG_TICK, "--setup-seconds", "86400", "--answer-seconds", "600", "--sync", "no",
                  "--page", "127.0.0.1:%d" % PAGE_OF_FRONT, *words]
-        self.front = subprocess.Popen(["ip", "netns", "exec", MACHINE, *FRONT, *map(str, given)], stderr=subprocess.PIPE, text=True)
+        command = ["ip", "netns", "exec", MACHINE, *with_rights_of(FRONT_UNIT), *FRONT, *map(str, given)]
+        self.front = subprocess.Popen(command, stderr=subprocess.PIPE, text=True)
         for line in self.front.stderr:
             self.front_told.append(line)
             if "ready: stations" in line:

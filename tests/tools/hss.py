@@ -69,11 +69,12 @@ def capture(path, messages):
 
 @dataclasses.dataclass
 class Subscriber:
-    """A SIM in the HSS, or none, where vectors are nobody's; and how it fails there: by a Result-Code, by a code of 3GPP, in
-    silence, with fewer vectors, or with vectors of another shape."""
+    """A SIM in the HSS, or none, where vectors are nobody's; and how it fails there: by a Result-Code, perhaps with words, by a
+    code of 3GPP, in silence, with fewer vectors, or with vectors of another shape."""
 
     card: object
     fails: int | None = None
+    says: str = ""
     fails_by: int | None = None
     vendor: int = VENDOR  # whose code that is
     is_mute: bool = False
@@ -169,7 +170,8 @@ class Hss:
         if subscriber.is_mute:
             return None
         if subscriber.fails is not None:
-            return (E if subscriber.fails // 1000 == 3 else 0, avp(RESULT, subscriber.fails) + self.identity())
+            words = avp(281, subscriber.says, flags=0) if subscriber.says else b""
+            return (E if subscriber.fails // 1000 == 3 else 0, avp(RESULT, subscriber.fails) + self.identity() + words)
         if subscriber.fails_by is not None:
             return self.failure(subscriber.fails_by, subscriber.vendor)
         return self.success(got, subscriber)

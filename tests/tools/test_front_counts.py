@@ -265,5 +265,7 @@ class Told(Served):
         running.until(lambda: self.values()['soizkadur_log_whole{of="what counts"}'] == 0)
         values = self.values()
         self.assertEqual((values['soizkadur_log_segments{of="what counts"}'], values['soizkadur_alarm{of="what counts"}']), (4, 1))
+        counts = json.loads(running.asks("counters", "--json"))["log"]["what counts"]
+        self.assertEqual(counts, {"segments": 4, "segments_kept": 4, "share": 1.0, "whole": False})
         self.assertIn("isn't whole since the start", self.get("/")[0].replace("&#x27;", "'"))
         self.assertEqual(running.said().count(b"segments of %s.counts are used" % bytes(running.log)), 1)

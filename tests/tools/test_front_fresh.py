@@ -301,6 +301,37 @@ class Vectors(Phones):
         return self.asks()
 
 
+@unittest.skipUnless(PROGRAM.exists(), "the program isn't built (./mme --prove)")
+class Unsynced(Phones):
+    """A power cut took of LOG.used what a run without syncs wrote there last, and the machine was booted."""
+
+    def check_begins_anew(self, *words):
+        """A run that begins so has none of the log's vectors, also where LOG.used has one of them."""
+        path, first = self.folder / "log.used", self.phone.vectors[-1]
+        path.write_text("%s %s\n" % (self.phone.imsi, first.rand.hex()))
+        self.phone.vectors.pop()
+        running = self.begin("--sync", "no", environment={"BOOT_ID": "one"})
+        attach = self.attaches()
+        running.process.kill()
+        running.ended()
+        kept = path.read_text().splitlines(keepends=True)
+        self.assertEqual(len(kept), 2)
+        path.write_text(kept[0])
+        running = self.begin(*words, environment={"BOOT_ID": "two"})
+        self.assertIn(b"none of its vectors can be used again", running.told)
+        self.assertEqual(sorted(rands_of(running)),
+                         sorted((self.phone.imsi, vector.rand.hex()) for vector in [*self.phone.vectors, first]))
+        self.assertEqual([octets for octets in self.answers_to(attach)
+                          if challenges.challenged(octets) or octets[:2] == CONTEXT_REQUEST], [])
+        self.assertEqual(running.stop()[0], 0)
+
+    def test_anew(self):
+        self.check_begins_anew("--resume", "--anew", "--keep", "1")
+
+    def test_without_resume(self):
+        self.check_begins_anew("--keep", "1")
+
+
 class UsedFile(unittest.TestCase):
     def setUp(self):
         self.path = pathlib.Path(self.enterContext(tempfile.TemporaryDirectory()), "log.used")

@@ -9,7 +9,7 @@ import unittest.mock
 
 from reference import lte as LTE
 from tests.tools.fronted import HEAD, IMSI, REMEMBERED, Running, said
-from tools.fronting import exchange, journal, limits, provisioning, resuming, segments, syncing, used
+from tools.fronting import exchange, front, journal, limits, provisioning, resuming, segments, syncing, used
 from tools.fronting.faults import LOG_FAILS, Failed
 from tools.fronting.loop import Loop
 from tools.fronting.meters import Meters
@@ -17,6 +17,16 @@ from tools.fronting.meters import Meters
 DOWN, OTHER_DOWN = b"out s0 0 000b01\n", b"out s0 0 000b02\n"
 MARK = b"refused 5\n"
 FAULT = OSError(errno.EIO, os.strerror(errno.EIO))
+
+
+def challenge(number):
+    """A phone's challenge, by a vector of this number."""
+    return LTE.downlink_nas(0x10001, 7, b"\x07\x52\x00" + bytes([number]) * 16 + b"\x10" + bytes(16))
+
+
+def challenge_line(number):
+    """The MME's answer that has it."""
+    return b"out s0 0 %s\n" % challenge(number).hex().encode()
 
 
 class ByHand:
@@ -66,6 +76,9 @@ class Notes:
     def write(self):
         os.write(self.file, self.waiting)
         self.waiting = b""
+
+    def sync(self):
+        os.fsync(self.file)
 
 
 class Receiver:
@@ -328,6 +341,24 @@ class GoesOn(Turns):
             self.disk.end(FAULT)
         self.assertEqual(self.sent, [])
 
+    def test_vectors(self):
+        """Which vectors are used is on disk before their challenges go out then too; where it isn't, they go to nobody."""
+        vectors = used.UsedVectors(self.log + used.LOG_END)
+        self.addCleanup(vectors.close)
+        self.exchange.used, self.exchange.imsis, self.journal.beside = vectors, [IMSI], [vectors]
+        self.turn()
+        self.disk.end(FAULT)
+        self.turn()
+        synced = []
+        with unittest.mock.patch.object(used.os, "fsync", side_effect=lambda file: synced.append((file, len(self.sent)))):
+            self.exchange.hear(MARK + challenge_line(1))
+        self.assertEqual((synced, self.sent), ([(vectors.file, 0)], [challenge(1)]))
+        with unittest.mock.patch.object(used.os, "fsync", side_effect=FAULT):
+            self.exchange.hear(challenge_line(2) + OTHER_DOWN)
+        self.exchange.hear(challenge_line(2) + challenge_line(1) + MARK)
+        self.assertEqual(self.sent[1:], [b"\0\x0b\2", challenge(2), challenge(1)])
+        self.assertEqual(self.told, ["no_log", "no_challenge"])
+
 
 class Beside(Turns):
     def test_beside(self):
@@ -389,14 +420,11 @@ class Challenges(Turns):
         self.exchange.used, self.exchange.imsis = self.vectors, [IMSI]
         self.journal.beside.append(self.vectors)
 
-    def challenge(self, number):
-        return LTE.downlink_nas(0x10001, 7, b"\x07\x52\x00" + bytes([number]) * 16 + b"\x10" + bytes(16))
-
     def answers(self):
         """What the MME answers at once, in the form of its lines; the first challenge is a repeated one."""
         self.vectors.add(["vec %s %s - - -" % (IMSI, "01" * 16)])
-        challenges = [b"out s0 0 %s\n" % self.challenge(number).hex().encode() for number in (1, 2, 3)]
-        return b"".join((DOWN, challenges[0], OTHER_DOWN, challenges[1], DOWN, challenges[2], OTHER_DOWN, MARK))
+        first, second, third = map(challenge_line, (1, 2, 3))
+        return b"".join((DOWN, first, OTHER_DOWN, second, DOWN, third, OTHER_DOWN, MARK))
 
     def test_order(self):
         """Those before the first of a new vector go out without it; the others once all the vectors are written, in their order."""
@@ -405,9 +433,9 @@ class Challenges(Turns):
         self.exchange.note_challenge = lambda slot, rand: told.append((slot, rand[0]))
         with unittest.mock.patch.object(self.exchange, "write_beside"):
             self.exchange.hear(answers)
-        self.assertEqual(self.sent, [b"\0\x0b\1", self.challenge(1), b"\0\x0b\2"])
+        self.assertEqual(self.sent, [b"\0\x0b\1", challenge(1), b"\0\x0b\2"])
         self.exchange.write_beside()
-        self.assertEqual(self.sent[3:], [self.challenge(2), b"\0\x0b\1", self.challenge(3), b"\0\x0b\2"])
+        self.assertEqual(self.sent[3:], [challenge(2), b"\0\x0b\1", challenge(3), b"\0\x0b\2"])
         self.assertEqual(told, [(0, 1), (0, 2), (0, 3)])
         lines = pathlib.Path(self.vectors.path).read_text().split()
         self.assertEqual(lines, [word for number in "123" for word in (IMSI, ("0" + number) * 16)])
@@ -418,14 +446,14 @@ class Challenges(Turns):
         answers = self.answers()
         with unittest.mock.patch.object(used, "add_whole", side_effect=FAULT):
             self.exchange.hear(answers)
-        self.assertEqual(self.sent, [b"\0\x0b\1", self.challenge(1), b"\0\x0b\2", b"\0\x0b\1", b"\0\x0b\2"])
+        self.assertEqual(self.sent, [b"\0\x0b\1", challenge(1), b"\0\x0b\2", b"\0\x0b\1", b"\0\x0b\2"])
         self.assertEqual(self.told, ["no_log", "no_challenge"])
 
     def test_nobodys(self):
         """A challenge for a phone that there isn't ends the front; what the MME answered before went out."""
         self.turn()
         with self.assertRaisesRegex(Failed, "for nobody: s1"):
-            self.exchange.hear(DOWN + b"out s1 0 %s\n" % self.challenge(2).hex().encode())
+            self.exchange.hear(DOWN + challenge_line(2).replace(b"s0", b"s1"))
         self.assertEqual(self.sent, [b"\0\x0b\1"])
 
     def test_no_answer(self):
@@ -471,6 +499,24 @@ class Unsynced(Turns):
         pathlib.Path(self.log + syncing.UNSYNCED).write_bytes(bytes(33))
         self.assertIn("isn't known", syncing.why_unsure(self.log))
         self.exchange.end_log()
+        self.assertIsNone(syncing.why_unsure(self.log))
+
+    def test_beside_at_the_beginning(self):
+        """What stands beside a log that wasn't synced is on disk before it counts as synced, where it is taken up."""
+        done = unittest.mock.Mock()
+        settings = types.SimpleNamespace(sync="no", log=self.log)
+        begun = types.SimpleNamespace(exchange=done.exchange, used=done.used, voice=done.voice, loop=None, settings=settings)
+        front.Front.write_to(begun, done.journal)
+        names = [name for name, _, _ in done.mock_calls]
+        self.assertLess(names.index("used.sync"), names.index("journal.keep_by"))
+
+    def test_beside_at_the_end(self):
+        """And so at the end."""
+        synced = []
+        with unittest.mock.patch.object(journal.os, "fdatasync", side_effect=lambda file: synced.append(
+                (file, os.path.exists(self.log + syncing.UNSYNCED)))):
+            self.exchange.end_log()
+        self.assertIn((self.notes.file, True), synced)
         self.assertIsNone(syncing.why_unsure(self.log))
 
 

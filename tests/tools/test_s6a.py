@@ -116,6 +116,14 @@ class Answers(Asking):
                      "IMSI %s: no answer in time" % OTHER):
             source.until_said(text)
 
+    def test_what_an_hss_says(self):
+        """Its words stand in one line, in which all can be seen."""
+        self.subscribers[IMSI] = Subscriber(self.card, fails=5012, says="a\x1b[2J\x9b31m\nvec\r")
+        source = self.source(self.hss())
+        self.assertEqual(source.answers(air(IMSI)), ["later " + IMSI])
+        source.until_said(r": a\x1b[2J\x9b31m\nvec\r")
+        self.assertEqual([line for line in source.said().split("\n") if not line.isprintable()], [])
+
     def test_vectors_that_are_none(self):
         """Parts that are missing or of another length, an AMF that isn't for EPS, and no vector at all."""
         shapes = {"lacks": [lambda parts, place=place: parts[:place] + parts[place + 1:] for place in range(1, 5)],

@@ -197,6 +197,15 @@ class Command(unittest.TestCase):
             own, quick = self.ran("rt", *words), self.ran(sys.executable, SCRIPT, *words)
             self.assertEqual((quick.returncode, quick.stdout, quick.stderr), (own.returncode, own.stdout, own.stderr))
 
+    def test_tries_without_a_hint(self):
+        """Where a program is tried, what stands in place of the prover does nothing; elsewhere it is the prover."""
+        for word, wanted in (("try", "true"), ("version", "rattle")):
+            rt = toolchain.module()
+            rt.main = lambda words, rt=rt: os.path.basename(rt.rtlib.RATTLE)
+            with self.subTest(word=word), unittest.mock.patch.object(toolchain, "module", return_value=rt), \
+                    unittest.mock.patch.object(rt.rtlib, "RATTLE", rt.rtlib.RATTLE):
+                self.assertEqual(toolchain.main([word]), wanted)
+
     def test_without_a_toolchain(self):
         with tempfile.TemporaryDirectory() as room:
             done = self.ran(sys.executable, SCRIPT, "version", env={"PATH": room})

@@ -88,6 +88,11 @@ class Shown(tools.InFolder):
         self.assertEqual(done.returncode, 2)
         self.check(done.stderr, r"a\x1b[2J\x9b31mout")
 
+    def test_gateway(self):
+        """Of a list of SIMs, by its name."""
+        words = "--sims", self.file("a\n\x1b[2J", b"none\n"), "--given", self.folder / "given", "10.0.0.1", "10.45.0.0/16"
+        self.check(tools.ran("gateway", *words).stderr, r"/a\n\x1b[2J: line 1")
+
     def test_front(self):
         """Its standard error, its page, its metrics, and what `ask` prints: what an MME says on standard error and as states."""
         program = self.file("program", STAND_IN.replace("IDLE INACTIVE", r"IDLE \x1b[2J\x9b<b>").replace(

@@ -312,11 +312,15 @@ class Exchange:
             self.voice.say("held", text + ": stations are refused and not heard until there is room")
 
     def go_on_without(self, text):
-        """Goes on without a log, once it is sure that no run goes on after it: what is answered from now on isn't in it."""
+        """Goes on without a log, once it is sure that no run goes on after it: what is answered from now on isn't in it. Where it
+        was synced, the vectors that were used still are."""
         if self.journal is None:
             return
+        self.used.syncs = self.journal.syncer is not None
         try:
             self.journal.give_up()
+            if self.used.syncs:
+                self.used.sync()
         except OSError as fault:
             raise Failed("%s: and it can't be given up: %s" % (text, told(fault)), LOG_FAILS) from None
         self.journal.close()

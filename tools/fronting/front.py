@@ -60,7 +60,7 @@ class Front:
 
     def begin(self):
         """Starts the MME, with the last log before it where that is to be resumed; it has answered then."""
-        more = self.resume() if self.settings.resume and self.has_log() else None
+        more = self.resume() if self.has_log() else None
         if more is None:
             lost = [] if self.used.known else perhaps_used(self.settings.log)
             make_way(self.settings.log, self.settings.keep)
@@ -76,23 +76,24 @@ class Front:
         return more
 
     def has_log(self):
-        """Whether a log stands that a run may go on after, since all that was answered is in it. Where that isn't known and a run is
-        to begin anew, all its vectors count as used."""
-        log = self.settings.log
+        """Whether a log stands that this run is to go on after, and all that was answered is in it. Where that isn't known and a
+        run is to begin anew, all its vectors count as used."""
+        log, resumes = self.settings.log, self.settings.resume
         why = why_unsure(log)
-        if why and not self.settings.anew:
+        if why and resumes and not self.settings.anew:
             raise Failed("%s (--anew begins with nobody attached)" % why, WRONG)
         if why:
             self.used.add(head_facts(log) or self.head.facts)
             self.voice.say("not_resumed", "the last run isn't resumed, and nobody is attached: %s" % why)
-        return not why and bool(parts_of(log))
+        return resumes and not why and bool(parts_of(log))
 
     def write_to(self, journal):
-        """From now on what the MME is given stands in this log, and on disk where it is to be synced."""
+        """From now on what the MME is given stands in this log, and on disk where it is to be synced. The vectors that were used are
+        on disk before the log counts as synced."""
         self.exchange.write_to(journal)
         try:
-            journal.keep_by(Syncer(self.loop) if self.settings.sync == YES else None)
             self.used.sync()
+            journal.keep_by(Syncer(self.loop) if self.settings.sync == YES else None)
         except OSError as fault:
             raise Failed("%s: %s" % (self.settings.log, told(fault)), LOG_FAILS) from None
         if self.settings.sync != YES:

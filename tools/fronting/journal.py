@@ -452,11 +452,13 @@ class Journal:
     # The end.
 
     def end(self, now):
-        """All that happened is settled and on disk, where no turn is under way."""
+        """All that happened is settled and on disk, and what stands beside it, where no turn is under way."""
         if self.takes:
             self.write_settled(now, at_once=True)
             for series in self.series:
                 series.sync_all()
+            for one in self.beside:
+                os.fdatasync(one.file)
             self.sync_names()
             forget_unsynced(self.happened.path)
 

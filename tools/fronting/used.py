@@ -36,6 +36,7 @@ class UsedVectors:
     def __init__(self, path):
         self.path = path
         self.noted = {}  # those whose lines aren't written yet
+        self.syncs = False  # whether they are on disk once they are written, where no log sees to that
         try:
             self.file = os.open(path, os.O_RDWR | os.O_CREAT | os.O_APPEND, 0o600)
         except OSError as fault:
@@ -77,9 +78,11 @@ class UsedVectors:
         return True
 
     def write(self):
-        """Adds what was noted to the file, whole; or none of it, and raises the system's fault."""
+        """Adds what was noted to the file, whole. After a fault of the system's, which is raised, none of it counts as written."""
         if self.noted:
             self.size += add_whole(self.file, b"".join(entry + b"\n" for entry in self.noted), self.size)
+            if self.syncs:
+                self.sync()
             self.known.update(self.noted)
             self.noted.clear()
 

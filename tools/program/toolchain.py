@@ -8,8 +8,9 @@ crate's text (`Crate.stamp`), which some toolchains ask twice for each crate and
 way. Here the toolchain's own code answers each question once: `below` of a crate once, since what a crate uses is read when it is
 made and doesn't change, and within one sum the text of each crate once. `rt ci` has a program compiled by LLVM and then by the
 toolchain's own compiler; here it is compiled by both at once. Of a static library `rt ci` keeps nothing; here what its check made
-stays beside a sum of the crate's text, so that the library can be compiled of it without being proved again. Every answer is the one
-that `rt` gives.
+stays beside a sum of the crate's text, so that the library can be compiled of it without being proved again. And `rt ci` begins with
+the longest chain of crates (tools/program/lanes.py). Every answer is the one that `rt` gives; but `rt try` has the prover look
+beside it for names that a proof refuses, at the price of a build, and that hint isn't given here.
 
 What proves is started with huge_pages.c, where there is a C compiler for it and the system gives huge pages to those that ask: the
 prover is a seventh quicker so, and does nothing else. It keeps the memory that it has freed until it ends, and its own files in
@@ -34,6 +35,7 @@ import threading
 sys.dont_write_bytecode = True
 if __name__ == "__main__":
     sys.path[0] = str(pathlib.Path(__file__).resolve().parents[2])
+from tools.program import lanes
 from tools.program.words import Failed, say
 
 # The words that have the toolchain prove something.
@@ -49,6 +51,8 @@ PURGE_DELAY, NEVER = "MIMALLOC_PURGE_DELAY", "-1"
 IN_MEMORY, TEMPORARY, ENOUGH = pathlib.Path("/dev/shm"), "TMPDIR", 8 << 30
 # What `rt` calls the toolchain's own compiler, beside LLVM.
 OWN_COMPILER = "rattle"
+TRYING = "try"
+DOES_NOTHING = "true"  # a command
 
 
 def found_once(below):
@@ -229,7 +233,13 @@ def module():
     loader.exec_module(rt)
     for crate in (rt.rtlib.Crate, rt.Crate):
         make_quicker(crate)
+    rt.in_lanes = lanes.chain_first(rt)
     return rt
+
+
+def leave_out_hint(rt):
+    """Has `rt try` start nothing in place of the prover, which it asks for a hint alone."""
+    rt.rtlib.RATTLE = DOES_NOTHING
 
 
 def command(*words):
@@ -247,7 +257,10 @@ def main(words):
         os.execv(found, [found, *words])
     if words[:1] and words[0] in PROVING:
         make_provers_quicker()
-    return module().main(words)
+    rt = module()
+    if words[:1] == [TRYING]:
+        leave_out_hint(rt)
+    return rt.main(words)
 
 
 if __name__ == "__main__":

@@ -7,11 +7,10 @@ ghost use Rattle.mme_core.specs.World.{parts_world};
 
 use crate::config::Config;
 use crate::mme::{Mme, Surroundings};
-use crate::provisioning::share;
+use crate::provisioning::prepare;
 use identity_slots::Provision;
 use mme_answering::Outs;
 use mme_owners::Owners;
-use mme_routing::setup_response;
 use mme_types::EnbWorld;
 use std::alloc::{AllocError, Global};
 
@@ -65,23 +64,33 @@ impl Mme {
         requires apart { AreApart (parts_world config clock stations provision.profiles owners) }
         ensures { IfOk result (λ m. m ≡ parts_world config clock stations provision.profiles owners) }
     {
-        let setup_response = setup_response(alloc, &config.network)?;
-        let shared = share(alloc, &config.network)?;
         // (that there are 128 of them)
         let _ = stations.as_slice();
-        let surroundings = Surroundings {
-            config,
-            clock,
-            stations,
-            provision,
-            setup_response,
-            shared,
-            alloc,
-        };
-        Ok(Mme {
-            surroundings,
-            owners,
-            room: Outs::new(alloc),
-        })
+        match prepare(alloc, &config.network) {
+            Ok((setup_response, shared)) => {
+                let surroundings = Surroundings {
+                    config,
+                    clock,
+                    stations,
+                    provision,
+                    setup_response,
+                    shared,
+                    alloc,
+                };
+                Ok(Mme {
+                    surroundings,
+                    owners,
+                    room: Outs::new(alloc),
+                })
+            }
+            Err(fault) => {
+                // (where the scope ended them, each part of them would be ended here)
+                drop(owners);
+                drop(provision);
+                drop(stations);
+                drop(config);
+                Err(fault)
+            }
+        }
     }
 }

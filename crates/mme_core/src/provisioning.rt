@@ -23,10 +23,23 @@ pub(crate) fn slot_of(place: usize) -> Slot
 }
 
 /// A network, to be shared.
-pub(crate) fn share(alloc: Global, network: &Network) -> Result<SharedNetwork, AllocError>
+fn share(alloc: Global, network: &Network) -> Result<SharedNetwork, AllocError>
     ensures { IfOk result (λ s. s ≡ network.now) }
 {
     SharedNetwork::new(alloc, network.clone()?)
+}
+
+/// S1 SETUP RESPONSE of a network, and the network to be shared.
+pub(crate) fn prepare(
+    alloc: Global,
+    network: &Network,
+) -> Result<(Option<SentOctets>, SharedNetwork), AllocError>
+    ensures response { IfOk result (λ p. p.0 ≡ encoded (setup_response network.now)) }
+    ensures shared { IfOk result (λ p. p.1 ≡ network.now) }
+{
+    let setup_response = setup_response(alloc, network)?;
+    let shared = share(alloc, network)?;
+    Ok((setup_response, shared))
 }
 
 /// One subscriber more, who was never seen, with its vectors. Refused, all are as they were.
@@ -106,8 +119,7 @@ pub(crate) fn begin(
     ensures profiles { OnOk result (provision.new.profiles ≡ provision.old.profiles) }
 {
     let stations = EnbWorld::new(alloc)?;
-    let setup_response = setup_response(alloc, network)?;
-    let shared = share(alloc, network)?;
+    let (setup_response, shared) = prepare(alloc, network)?;
     let owners = fresh_owners(alloc, &shared, provision)?;
     Ok(Begun {
         stations,

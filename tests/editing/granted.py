@@ -1,0 +1,69 @@
+"""A copy of a crate in which some functions alone are left to be proved: of all others it is granted that they are."""
+import collections
+import contextlib
+import copy
+import os
+import re
+import shutil
+import tempfile
+
+PARTS = ("src", "specs", "proofs")
+# A term of any type, by a hole: `--allow-holes` takes it, and each proof that is nothing but it, and says of what stands on it that it does.
+ANYTHING = "pub anything : (A : Type 2) → A\nanything A = ?\n"
+GRANTED = """use Rattle.{crate}.proofs.{path}.Statement as stated
+use Rattle.{crate}.proofs.Anything.{{anything}}
+
+pub {name}_spec : {{M : Type 1}} → stated.statement M
+{name}_spec {{M}} = anything (stated.statement M)
+"""
+# The forms of a function's proof, of which a crate has one.
+FORMS = ("Proof.antt", "Invariants.antt", "Answers.antt")
+# How a check with holes says that a function is proved but for them.
+BUT_FOR_HOLES = ("no holes", "depends on a hole in ")
+
+
+def functions_of(crate):
+    """Returns the functions of a crate that have proofs, as paths with dots, by the library that `rt ci` built of it; none where there is
+    no such library. A trait's own methods, closures and what drops a value have none that could be granted."""
+    file = os.path.join(crate.rlib, "toolchain", "checked.json")
+    if not os.path.isfile(file):
+        return []
+    module = re.compile(rf'"part/Rattle-{crate.name}-proofs\.([^"]+)\.(Code|Met|Statement)"')
+    parts = collections.defaultdict(set)
+    with open(file, encoding="utf-8") as lines:
+        for path, part in module.findall(lines.read()):
+            parts[path].add(part)
+    found = [path for path, own in parts.items() if "Code" in own and ("Met" in own or "Statement" not in own)]
+    return [path for path in found if "+" not in path and ".fn." not in path]
+
+
+def grant(crate, room, path):
+    """Puts a hole in the place of a function's proof."""
+    folder = os.path.join(room, "proofs", *path.split("."))
+    os.makedirs(folder, exist_ok=True)
+    for form in FORMS:
+        with contextlib.suppress(FileNotFoundError):
+            os.remove(os.path.join(folder, form))
+    with open(os.path.join(folder, FORMS[0]), "w", encoding="utf-8") as out:
+        out.write(GRANTED.format(crate=crate.name, path=path, name=path.rpartition(".")[2]))
+
+
+@contextlib.contextmanager
+def all_but(crate, functions):
+    """Yields a copy of a crate in which these functions are left to be proved, and what a check of it is asked besides. Where nothing is
+    known of the others, the copy is as the crate and a check is asked nothing more."""
+    others = set(functions_of(crate)) - {function.replace("::", ".") for function in functions}
+    with tempfile.TemporaryDirectory(prefix="granted-") as room:
+        for part in PARTS:
+            if os.path.isdir(os.path.join(crate.folder, part)):
+                shutil.copytree(os.path.join(crate.folder, part), os.path.join(room, part))
+        for path in others:
+            grant(crate, room, path)
+        if others:
+            with open(os.path.join(room, "proofs", "Anything.antt"), "w", encoding="utf-8") as out:
+                out.write(ANYTHING)
+            with open(os.path.join(room, "proofs", "Lib.antt"), "a", encoding="utf-8") as out:
+                out.write("pub mod Anything\n")
+        own = copy.copy(crate)
+        own.folder = room
+        yield own, ["--allow-holes"] if others else []

@@ -1,0 +1,95 @@
+"""tools/program/lanes.py: the longest chain of crates comes first, by two processes a proof, and no more run than there are processors."""
+import contextlib
+import os
+import threading
+import types
+import unittest
+import unittest.mock
+
+from tools.program import lanes
+
+# Crates, each with those that it stands on, all of them, and its lines: `low`, `mid` and `top` are the longest chain.
+CRATES = {"low": ((), 100), "side": ((), 90), "small": ((), 10), "mid": (("low",), 100), "top": (("low", "mid", "small"), 100)}
+MEMORY = 1 << 30
+
+
+class Machine:
+    """Tasks as `rt` makes them, which note what runs while they run; and a toolchain with so many processors."""
+
+    def __init__(self, processors, memory=64 * MEMORY):
+        self.turn, self.running, self.seen = threading.Lock(), {}, []
+        self.rt = types.SimpleNamespace(processors=lambda: processors, free=lambda: memory, ending=contextlib.nullcontext,
+                                        in_lanes=lambda tasks: "as rt does it")
+
+    def call(self, key, given, processes, waits):
+        with self.turn:
+            self.running[key] = processes
+            self.seen.append((key, processes, dict(self.running)))
+        missing = [it for it in waits if it not in given]
+        with self.turn:
+            del self.running[key]
+        return not missing
+
+    def tasks(self, tested=()):
+        tasks = {}
+        for name, (below, lines) in CRATES.items():
+            waits = [(it, "proof") for it in below]
+            for kind, work in (("proof", lines), ("tests", lines * (name in tested))):
+                key = name, kind
+                tasks[key] = waits, work, MEMORY, lambda given, jobs, key=key, waits=waits: self.call(key, given, jobs, waits)
+        return tasks
+
+    def run(self, tested=()):
+        with unittest.mock.patch.dict(os.environ):
+            os.environ.pop("RT_JOBS", None)
+            return lanes.chain_first(self.rt)(self.tasks(tested))
+
+    def processes(self):
+        return {key: processes for key, processes, _ in self.seen}
+
+
+class Sharing(unittest.TestCase):
+    def test_the_chain(self):
+        tasks = Machine(4).tasks()
+        behind = lanes.work_behind(tasks)
+        self.assertEqual((behind["low", "proof"], behind["side", "proof"], behind["small", "proof"]), (300, 90, 110))
+        self.assertEqual(lanes.chain_of(tasks, behind), {("low", "proof"), ("mid", "proof"), ("top", "proof")})
+
+    def test_each_task_once_with_what_it_waits_for(self):
+        machine = Machine(4)
+        given = machine.run(tested=("side",))
+        self.assertEqual(given, dict.fromkeys(machine.tasks(), True))
+        self.assertEqual(len(machine.seen), len(given))
+
+    def test_two_processes_for_the_chain(self):
+        machine = Machine(4)
+        machine.run()
+        processes = machine.processes()
+        self.assertTrue(all(processes[name, "proof"] >= lanes.OF_CHAIN for name in ("low", "mid", "top")), processes)
+        self.assertEqual(processes["side", "proof"], 1)
+
+    def test_no_more_than_processors(self):
+        for processors in (4, 8):
+            machine = Machine(processors)
+            machine.run(tested=("low", "side", "mid"))
+            busy = [sum(count for (_, kind), count in running.items() if kind == "proof") for _, _, running in machine.seen]
+            self.assertLessEqual(max(busy), processors)
+
+    def test_without_memory_one_after_the_other(self):
+        machine = Machine(4, memory=int(1.5 * MEMORY))
+        self.assertTrue(all(machine.run().values()))
+        proofs = [(key, processes) for key, processes in machine.processes().items() if key[1] == "proof"]
+        self.assertEqual(proofs, [(key, 1) for key, _ in proofs])
+        self.assertTrue(all(len([it for it in running if it[1] == "proof"]) <= 1 for _, _, running in machine.seen))
+
+    def test_as_the_toolchain_does_it(self):
+        self.assertEqual(Machine(2).run(), "as rt does it")
+        machine = Machine(4)
+        with unittest.mock.patch.dict(os.environ, RT_JOBS="1"):
+            self.assertEqual(lanes.chain_first(machine.rt)(machine.tasks()), "as rt does it")
+        machine.rt.in_lanes = lambda tasks, more: "another form"
+        self.assertIs(lanes.chain_first(machine.rt), machine.rt.in_lanes)
+
+
+if __name__ == "__main__":
+    unittest.main()

@@ -1,0 +1,127 @@
+"""How `rt ci` shares the processors among what it has to do: its longest chain of crates first, each proof of it by two processes.
+
+`rt` begins a proof of that chain by as many processes as no other proof waits for, which is mostly one: on four processors the chain
+then takes longer than all the work does. Here two processors are kept for it as long as any of it is left, and the others take what
+else can begin, the one with the most work behind it first. What has nothing to do, such as the tests of a crate without tests, takes
+no processor. On fewer processors, and where RT_JOBS says how many processes there are to be, it is as `rt` does it.
+"""
+import concurrent.futures
+import functools
+import inspect
+import os
+
+# The processes of a proof of the chain, the most of any other, and the fewest processors that the chain is first on.
+OF_CHAIN, MOST, FEWEST = 2, 4, 4
+# The share of what is free that tasks may take of memory, and what each further process of a proof takes of its memory.
+SHARE, OF_PROCESS = 0.85, 0.6
+PROOFS, FILLS = ("proof", "tests"), ("seed", "edits")
+
+
+def work_behind(tasks):
+    """Returns for each task how much there is to do from it on, along the longest way; a task comes after those that it waits for."""
+    behind = dict.fromkeys(tasks, 0)
+    for key in reversed([*tasks]):
+        waits, work, *_ = tasks[key]
+        behind[key] += work
+        for it in waits:
+            behind[it] = max(behind[it], behind[key])
+    return behind
+
+
+def chain_of(tasks, behind):
+    """Returns the longest chain of proofs."""
+    proofs = [it for it in tasks if it[1] == "proof"]
+    chain = [max(proofs, key=behind.get)]
+    while waiting := [it for it in proofs if chain[-1] in tasks[it][0]]:
+        chain.append(max(waiting, key=behind.get))
+    return set(chain)
+
+
+class Sharing:
+    """Tasks that are left and those that run, by the names that `rt` gives them. A task is what it waits for, its work in lines, its
+    memory, and a call with what was given and how many processes it may use."""
+
+    def __init__(self, tasks, processors, memory):
+        behind = work_behind(tasks)
+        self.tasks, self.processors, self.memory = tasks, processors, memory
+        self.chain = chain_of(tasks, behind)
+        self.left = sorted(tasks, key=lambda it: (it[1] in FILLS, -behind[it]))
+        self.running, self.given = {}, {}
+
+    def ready(self):
+        return [it for it in self.left if all(below in self.given for below in self.tasks[it][0])]
+
+    def is_idle_task(self, key):
+        """Whether there is nothing to do: no tests, or no edits."""
+        return key[1] == "tests" and not self.tasks[key][1]
+
+    def idle(self):
+        """The processors that nothing runs on."""
+        return self.processors - sum(processes for _, processes in self.running.values())
+
+    def kept_free(self):
+        """The processors that are kept for the chain."""
+        under_way = any(key in self.chain for key, _ in self.running.values())
+        return 0 if under_way or not self.chain.intersection(self.left) else OF_CHAIN
+
+    def fits(self, key, processes):
+        """Whether there is memory for a task beside those that run; where none runs, there is for one process."""
+        taken = sum(self.memory_of(*it) for it in self.running.values())
+        return taken + self.memory_of(key, processes) <= self.memory or not self.running and processes == 1
+
+    def memory_of(self, key, processes):
+        return self.tasks[key][2] * (1 + OF_PROCESS * (processes - 1))
+
+    def processes_of(self, key, others):
+        """How many processes a task that is ready begins with, where so many other proofs are; 0 where it waits."""
+        idle = self.idle() if key in self.chain else self.idle() - self.kept_free()
+        if key in self.chain:
+            wanted = max(OF_CHAIN, min(MOST, idle // (1 + others)))
+        else:
+            wanted = max(1, min(MOST, idle // (1 + others))) if key[1] in PROOFS else 1
+        if idle < wanted:
+            return 0
+        return next((it for it in range(wanted, 0, -1) if self.fits(key, it)), 0)
+
+    def begun(self):
+        """Yields each task that begins now, and its processes."""
+        is_short = False
+        for key in self.ready():
+            if is_short and key[1] in FILLS:
+                # (a proof waits for memory, which edits would take again and again)
+                return
+            others = sum(it[1] in PROOFS and it != key and not self.is_idle_task(it) for it in self.ready())
+            processes = 0 if self.is_idle_task(key) else self.processes_of(key, others)
+            if processes or self.is_idle_task(key):
+                self.left.remove(key)
+                yield key, processes
+            is_short = is_short or not processes and self.idle() > 0 and key[1] in PROOFS
+
+
+def in_lanes(rt, tasks):
+    """Runs tasks side by side and returns what each gave, as `in_lanes` of `rt` does."""
+    sharing = Sharing(tasks, rt.processors(), SHARE * rt.free())
+    with rt.ending(), concurrent.futures.ThreadPoolExecutor(sharing.processors + len(tasks)) as pool:
+        while sharing.left or sharing.running:
+            for key, processes in sharing.begun():
+                running = pool.submit(tasks[key][3], sharing.given, max(1, processes))
+                sharing.running[running] = key, processes
+            done = concurrent.futures.wait(sharing.running, return_when=concurrent.futures.FIRST_COMPLETED).done
+            for it in done:
+                sharing.given[sharing.running.pop(it)[0]] = it.result()
+    return sharing.given
+
+
+def chain_first(rt):
+    """`in_lanes` of `rt`, by which the longest chain comes first; as it is where it has another form than the one known here."""
+    own = rt.in_lanes
+    if list(inspect.signature(own).parameters) != ["tasks"] or not {"processors", "free", "ending"} <= set(vars(rt)):
+        return own
+
+    @functools.wraps(own)
+    def shared(tasks):
+        if os.environ.get("RT_JOBS", "") or rt.processors() < FEWEST:
+            return own(tasks)
+        return in_lanes(rt, tasks)
+
+    return shared
