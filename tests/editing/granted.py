@@ -7,6 +7,8 @@ import re
 import shutil
 import tempfile
 
+from tests.editing.verdicts import FUNCTION, place_of
+
 PARTS = ("src", "specs", "proofs")
 # A term of any type, by a hole: `--allow-holes` takes it, and each proof that is nothing but it, and says of what stands on it that it does.
 ANYTHING = "pub anything : (A : Type 2) → A\nanything A = ?\n"
@@ -18,6 +20,8 @@ pub {name}_spec : {{M : Type 1}} → stated.statement M
 """
 # The forms of a function's proof, of which a crate has one.
 FORMS = ("Proof.antt", "Invariants.antt", "Answers.antt")
+# What stands for the body of a function that is granted, so that nothing is worked out of it.
+NO_BODY = "unreachable!()"
 # How a check with holes says that a function is proved but for them.
 BUT_FOR_HOLES = ("no holes", "depends on a hole in ")
 
@@ -48,6 +52,33 @@ def grant(crate, room, path):
         out.write(GRANTED.format(crate=crate.name, path=path, name=path.rpartition(".")[2]))
 
 
+def without_bodies(crate, text, file, names):
+    """Returns the text of a source in which the functions of these names have no body."""
+    parts, done = [], 0
+    for found in FUNCTION.finditer(text):
+        place, indent = place_of(text, found.end(), file), found[1]
+        begin = re.compile(rf"^(?:{indent}|.* )\{{\n", re.MULTILINE).search(text, found.start())
+        end = text.find(f"\n{indent}}}\n", found.end())
+        if place and begin and found.start() >= done and begin.end() <= end and place.named(crate.name, names):
+            parts.append(text[done:begin.end()] + f"{indent}    {NO_BODY}")
+            done = end
+    return "".join(parts) + text[done:]
+
+
+def empty(crate, room, paths):
+    """Takes the bodies of functions away, and what is proved of closures in them."""
+    names = ["::".join([crate.name, *path.split(".")]) for path in paths]
+    for at, _, files in os.walk(os.path.join(room, "src")):
+        for file in (os.path.join(at, file) for file in files if file.endswith(".rt")):
+            with open(file, encoding="utf-8") as it:
+                text = it.read()
+            with open(file, "w", encoding="utf-8") as out:
+                out.write(without_bodies(crate, text, os.path.relpath(file, room), names))
+    for path in paths:
+        module, _, name = path.rpartition(".")
+        shutil.rmtree(os.path.join(room, "proofs", *module.split("."), "fn", name), ignore_errors=True)
+
+
 @contextlib.contextmanager
 def all_but(crate, functions):
     """Yields a copy of a crate in which these functions are left to be proved, and what a check of it is asked besides. Where nothing is
@@ -60,6 +91,7 @@ def all_but(crate, functions):
         for path in others:
             grant(crate, room, path)
         if others:
+            empty(crate, room, others)
             with open(os.path.join(room, "proofs", "Anything.antt"), "w", encoding="utf-8") as out:
                 out.write(ANYTHING)
             with open(os.path.join(room, "proofs", "Lib.antt"), "a", encoding="utf-8") as out:

@@ -33,10 +33,10 @@ def try_guards_of(rt, crate, guards):
     A function is proved by the contracts of those that it calls and not by their bodies, so what one guard makes wrong refuses no other."""
     functions = [function_of(guard) for guard in guards]
     labels = [f"guard {crate.name}/{os.path.basename(guard)}" for guard in guards]
-    texts, why = rt.edited("\n".join(map(text_of, guards)), crate.folder)
-    if why:
-        return [(False, f"{label}: NOT TRIED: {why}") for label in labels]
     with all_but(crate, functions) as (own, asked):
+        texts, why = rt.edited("\n".join(map(text_of, guards)), own.folder)
+        if why:
+            return [(False, f"{label}: NOT TRIED: {why}") for label in labels]
         only = [word for function in functions for word in ("--only", function)]
         ran = rt.checked(own, texts, [*Trial.flags, *only, *asked], None)
     lines = ran.stdout.rstrip("\n").split("\n")
