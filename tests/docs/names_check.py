@@ -6,8 +6,11 @@
 - A word of code, also with another in brackets, is in the crates' code, definitions and edits, or names a crate or a file.
 - A path of items, as `crate::function`, `module::item`, `Type::method` or `Type::Variant` and longer ones, leads from each part to
   the next by what the code declares (items.py): that both words are somewhere isn't enough. So it is in all documents.
+- A section that a document sends its reader to, as `FILE.md`, "Heading", is there: a heading, without its number if it has one, or
+  the bold beginning of an item. So it is in all documents.
 - Any other piece of code stands in some file of the repository as it is, unless it is a command; `..` in it was left out.
-- A word of PROMISES.md that is the name of a lemma of specs/ names a contract too: a lemma alone is no promise.
+- A word of PROMISES.md that is the name of a lemma of specs/ names a contract too: a lemma alone is no promise. And each law is
+  there: each public function of a crate of laws, and of any other crate's module of laws.
 - Each row of PROOFS.md under "From promise to clause" has a crate's function, or several, with the clauses of their contracts behind a
   colon, definitions that are public in some crate's specs/, and edits that are there.
 """
@@ -25,6 +28,8 @@ DOCUMENTS = ("docs/TOUR.md", "docs/PROOFS.md", "docs/PROMISES.md", "docs/REFUSAL
 MORE_DOCUMENTS = ("README.md", "bench/README.md", "deploy/README.md", "docs/*.md")  # whose paths of items are looked up
 SPAN = r"`([^`]+)`"
 ITEM_PATH = re.compile(r"\w+(?:::\w+)+")
+SECTION = re.compile(r'`((?:\w+/)*\w+\.md)`(?:, | \(| )"([^"]+)"')
+LAWS = re.compile(r"crates/(?:laws_\w+/src/.*|\w+/src/laws(?:/.*)?)\.rt")
 PROMISED = "docs/PROMISES.md"
 PROMISES = "From promise to clause"
 COMMANDS = ("rt ", "git ")
@@ -144,6 +149,15 @@ def lemma_faults(tree):
                 yield number, "%s is a lemma of specs/ and no contract" % span if span in tree.bare_lemmas else None
 
 
+def unpromised(tree):
+    """The laws: for each its file and what is wrong, if PROMISES.md doesn't name it."""
+    promised = {word for span in re.findall(SPAN, tables.text(PROMISED)) for word in re.findall(r"\w+", span)}
+    for path, text in sorted(tree.code.items()):
+        if LAWS.fullmatch(path):
+            for law in re.findall(r"(?m)^pub fn (\w+)", text):
+                yield path, None if law in promised else "%s doesn't have the law %s" % (PROMISED, law)
+
+
 def faults_of(tree, path):
     """What was looked up in a document: for each its line and what is wrong, if anything."""
     fence, head, quoted = False, "", []
@@ -169,6 +183,24 @@ def path_faults_of(tree, path):
         for span in re.findall(SPAN, line):
             for found in ITEM_PATH.findall(span):
                 yield number, None if tree.items.has_path(found) else "there is no %s" % found
+
+
+def section_fault(path, named, heading):
+    """What is wrong with a section that a document names; the file is found from the top or from the document's folder."""
+    places = [tables.TOP / named, (tables.TOP / path).parent / named]
+    text = next((place.read_text(encoding="utf-8") for place in places if place.exists()), None)
+    if text is None:
+        return "there is no %s" % named
+    words = re.escape(heading)
+    is_there = re.search(r"(?m)^(?:#+ (?:\d+\. )?%s$|- \*\*%s)" % (words, words), text)
+    return None if is_there else "%s has no section %s" % (named, heading)
+
+
+def section_faults_of(path):
+    """The sections that a document names: for each its line and what is wrong, if anything."""
+    for number, line in enumerate(tables.text(path).split("\n"), 1):
+        for named, heading in SECTION.findall(line):
+            yield number, section_fault(path, named, heading)
 
 
 def contract_of(tree, crate, function):
@@ -207,12 +239,15 @@ def checked(_words=()):
     """How much was looked up and found, and how much not; prints each that wasn't."""
     tree, passed, faults = Tree(), 0, []
     looked_up = [(path, faults_of(tree, path)) for path in DOCUMENTS]
-    looked_up += [(path, path_faults_of(tree, path)) for path in all_documents()]
+    looked_up += [(path, found) for path in all_documents() for found in (path_faults_of(tree, path), section_faults_of(path))]
     looked_up.append((PROMISED, lemma_faults(tree)))
     for path, found in looked_up:
         for number, fault in found:
             passed += not fault
             faults += ["%s:%d: %s" % (path, number, fault)] if fault else []
+    for path, fault in unpromised(tree):
+        passed += not fault
+        faults += ["%s: %s" % (path, fault)] if fault else []
     for row in tables.read("docs/PROOFS.md").get(PROMISES, []) or [[""] * 4]:
         wrong = list(row_faults(tree, row)) if len(row) == 4 else ["%d cells" % len(row)]
         passed += not wrong

@@ -52,15 +52,24 @@ def grant(crate, room, path):
         out.write(GRANTED.format(crate=crate.name, path=path, name=path.rpartition(".")[2]))
 
 
+def body_of(text, function):
+    """Returns where a function's body begins and ends, in the layout of `rt fmt`; zeros where it has none on lines of its own."""
+    indent = function[1]
+    end = text.find(f"\n{indent}}}\n", function.end())
+    # (after clauses a brace stands alone, else behind the head)
+    alone, behind = (re.compile(rf"^{indent}{head}\{{\n", re.MULTILINE).search(text, function.start()) for head in ("", r"\S.* "))
+    begin = next((it.end() for it in (alone, behind) if it and it.end() <= end), 0)
+    return (begin, end) if begin else (0, 0)
+
+
 def without_bodies(crate, text, file, names):
     """Returns the text of a source in which the functions of these names have no body."""
     parts, done = [], 0
     for found in FUNCTION.finditer(text):
-        place, indent = place_of(text, found.end(), file), found[1]
-        begin = re.compile(rf"^(?:{indent}|.* )\{{\n", re.MULTILINE).search(text, found.start())
-        end = text.find(f"\n{indent}}}\n", found.end())
-        if place and begin and found.start() >= done and begin.end() <= end and place.named(crate.name, names):
-            parts.append(text[done:begin.end()] + f"{indent}    {NO_BODY}")
+        begin, end = body_of(text, found)
+        place = place_of(text, found.end(), file)
+        if place and begin and found.start() >= done and place.named(crate.name, names):
+            parts.append(text[done:begin] + f"{found[1]}    {NO_BODY}")
             done = end
     return "".join(parts) + text[done:]
 

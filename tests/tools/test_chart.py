@@ -1,5 +1,6 @@
 """tools/chart: whole charts of worked rows, written by hand; that every message of every row is drawn, under its name and
 between the right lanes; that a chart of a browser is XML with the same arrows."""
+import collections
 import os
 import re
 import unittest
@@ -242,6 +243,13 @@ class Text(unittest.TestCase):
         self.assertEqual(chart("-", tools.ROWS / "unknown_imsi.answers", given=trace).stdout.decode(), UNKNOWN_IMSI)
 
 
+def rows_of_attaches(count):
+    """The rows of so many phones that attach, one after the other."""
+    trace = ATTACHES.attached(count)[0]
+    read = RUNS.read_trace(trace.text().encode())
+    return ROWS.rows_of(read, RUNS.matched(read, RUNS.read_answers(trace.answer_text().encode())))
+
+
 def told_by(rows, tag, label):
     """The line of the trace that the one row of a phone with this label says it is of."""
     [row] = [row for row in rows if row.phone and row.phone.tag == tag and any(arrow.label == label for arrow in row.arrows)]
@@ -291,11 +299,22 @@ class Svg(unittest.TestCase):
         self.assertTrue(all(float(text.get("y")) < head for text in signs))
         self.assertEqual(len({text.get("y") for text in texts if float(text.get("y")) < head}), len(signs) + 2)
 
+    def test_names_again(self):
+        """In a chart of many screens each row has the names of all lanes at most 450 pixels above it."""
+        root = xml.etree.ElementTree.fromstring(PICTURE.svg_of(rows_of_attaches(12), 0))
+        heads = collections.defaultdict(list)
+        for text in root.iter(SVG + "text"):
+            if text.get("class") == "head" and text.text != "!":
+                heads[text.text].append(float(text.get("y")))
+        self.assertEqual(set(heads), {"E0", "MME", *("P%d" % at for at in range(1, 13))})
+        tops = [float(rect.get("y")) for rect in root.iter(SVG + "rect") if rect.get("class") == "row"]
+        self.assertGreater(max(tops), 1500)
+        for places in heads.values():
+            self.assertLess(max(top - max(place for place in places if place < top) for top in tops), 450)
+
     def test_no_gap(self):
         """With many phones the first station stands a step from the last one, and each label ends between the first lane and it."""
-        trace = ATTACHES.attached(12)[0]
-        read = RUNS.read_trace(trace.text().encode())
-        rows = ROWS.rows_of(read, RUNS.matched(read, RUNS.read_answers(trace.answer_text().encode())))
+        rows = rows_of_attaches(12)
         root = xml.etree.ElementTree.fromstring(PICTURE.svg_of(rows, 0))
         heads = {text.text: float(text.get("x")) for text in root.iter(SVG + "text") if text.get("class") == "head"}
         steps = {heads["P%d" % (at + 1)] - heads["P%d" % at] for at in range(1, 12)}

@@ -239,7 +239,7 @@ class Told(Served):
         running.until(lambda: self.values()['soizkadur_vectors_left{left="2"}'] == 1)
         values = self.values()
         self.assertEqual((values["soizkadur_vectors_left_minimum"], values['soizkadur_alarm{of="vectors"}']), (2, 1))
-        self.assertIn("1 of 1 phones have 3 vectors or fewer left", self.get("/")[0])
+        self.assertIn("1 of 1 phones has 3 vectors or fewer left", self.get("/")[0])
         running.until(lambda: b"s0 has 3 vectors left" in running.said())
         self.assertEqual(running.said().count(b"left ("), 1)
         running.process.send_signal(signal.SIGKILL)

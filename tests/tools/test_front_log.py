@@ -395,7 +395,7 @@ class GivenToPhones(unittest.TestCase):
             lines = whole(running, end).splitlines()
             [place] = [place for place, line in enumerate(lines) if line.startswith("cancel")]
             self.assertEqual(lines[place], "cancel " + imsi)
-            self.assertTrue(lines[place - 1].startswith("# begun anew: the front was given lines of %s, " % imsi), lines[place - 1])
+            self.assertTrue(lines[place - 1].startswith("# begun anew: the front was given lines for %s, " % imsi), lines[place - 1])
         told = tools.ran("explain", "--mme", PROGRAM, running.log)
         self.assertEqual(told.returncode, 0, told)
         [line] = [line for line in told.stdout.decode().splitlines() if "begins the subscriber anew" in line]

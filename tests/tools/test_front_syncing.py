@@ -461,7 +461,7 @@ class Challenges(Turns):
         for line in (b"out s0 0\n", b"out s0 128 00\n", b"out s 0 00\n", b"out q0 0 00\n", b"out s0 0 0g\n", b"out s0 0 00 00\n"):
             with self.subTest(line=line):
                 self.turn()
-                with self.assertRaisesRegex(Failed, "the MME's answer is none: " + line.decode().strip()):
+                with self.assertRaisesRegex(Failed, "what the MME printed is no answer: " + line.decode().strip()):
                     self.exchange.hear(DOWN + line + OTHER_DOWN)
                 self.assertEqual(self.sent, [b"\0\x0b\1"])
                 self.sent.clear()

@@ -14,7 +14,7 @@ SCREEN_HEIGHT = 400  # pixels after which the heads of the lanes stand again
 POINT = 10  # pixels of an arrow's point
 # What the signs of a chart mean, each in its colour.
 SIGNS = (("fault", "! red: refused, failed, dropped, or can't be read"), ("fault", "cross: dropped, and nothing came of it"),
-         ("state", "green: states that were asked for"), ("time", "2 of 4: sent again, which time of how many"),
+         ("state", "green: states that were asked for"), ("time", "2 of 4: sent again, the second of four times"),
          ("time", "mouse on a row: its line of the trace"))
 # Of a light page and of a dark one: paper, text, time, state, fault, lane, arrow.
 COLOURS = ("#fff #222 #666 #060 #b00 #bbb #235", "#181818 #ddd #999 #7c7 #f77 #555 #9bd")

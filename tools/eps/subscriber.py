@@ -25,8 +25,8 @@ QOS = {"QCI": 9, "allocation and retention priority": PRIORITY}
 PHONE, DATA, SUBSCRIPTION, FRONT = "the phone", "downlink data", "the subscription", "the front"  # what things are said of
 # Why a registration ends by `cancel`: what that is said of, what it is, and how it is said of what ended by it.
 WITHDRAWN = SUBSCRIPTION, "is withdrawn", "subscription was withdrawn"
-BEGUN_ANEW = (FRONT, "begins the subscriber anew, since it was given lines of it, and above the phone was sent something else than "
-              "stands here; nobody withdrew the subscription", "subscriber was begun anew by the front")
+BEGUN_ANEW = (FRONT, "begins the subscriber anew, since it was given lines for it, and the phone was sent other answers than those "
+              "above; nobody withdrew the subscription", "subscriber was begun anew by the front")
 EMM_SYNCH_FAILURE, EMM_MAC_FAILURE, EMM_NON_EPS = 21, 20, 26
 IPV6, IPV4V6 = 2, 3
 ASKS_INFORMATION = 1

@@ -416,11 +416,11 @@ class Exchange:
             return
         messages, fault = self.read_messages(lines)
         if messages and not self.marks:
-            raise Failed("the MME's answer is to nothing that it was given: %s" % lines[0][:80].decode(), BABBLES)
+            raise Failed("the MME answered what it wasn't given: %s" % lines[0][:80].decode(), BABBLES)
         if messages:
             self.give_out(messages, self.marks[0])
         if fault is not None:
-            raise Failed("the MME's answer is none: %s" % fault[:80].decode(errors="replace"), BABBLES)
+            raise Failed("what the MME printed is no answer: %s" % fault[:80].decode(errors="replace"), BABBLES)
 
     def read_messages(self, lines):
         """The messages of answers, up to the first that is none, and that: of each the slot of the phone that it is of, or nothing,
@@ -515,7 +515,7 @@ class Exchange:
         except runs.Fault as fault:
             raise Failed("the MME's answer: %s" % fault, BABBLES) from None
         if answer.word != "state" or not self.shows or not self.marks:
-            raise Failed("the MME's answer is to nothing that it was given: %s" % line[:80].decode(errors="replace"), BABBLES)
+            raise Failed("the MME answered what it wasn't given: %s" % line[:80].decode(errors="replace"), BABBLES)
         self.do(self.marks[0].turn, self.shows.popleft(), answer)
 
     def has_been_answered(self, batch):

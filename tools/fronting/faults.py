@@ -1,8 +1,8 @@
 """Why a connection, the MME or the front ends, and with which status."""
 from tools import runs
 
-# What `run` ends with, beside 0 and the MME's own status: wrong words or files, which stay wrong; and what may go by itself, by
-# the names of sysexits.h: EX_SOFTWARE, EX_IOERR, EX_TEMPFAIL and EX_PROTOCOL.
+# What `run` ends with, beside 0 and the MME's own status: wrong words or files, which stay wrong; and, by the names of sysexits.h
+# (EX_SOFTWARE, EX_IOERR, EX_TEMPFAIL and EX_PROTOCOL), what a new start may mend.
 WRONG, BABBLES, LOG_FAILS, NOT_YET, SILENT = 2, 70, 74, 75, 76
 
 

@@ -4,7 +4,8 @@ What the MME answers is a function of its head and its events. So a second MME g
 one the head as it is, and their answers are compared after each line. Where they are the same, but for the subscribers whose
 provisioning changes, the second MME takes the place of the one that runs, between two turns of the stations. A subscriber of whom
 something else was said than the second MME says now, and such a one alone, is brought to a known state by `cancel`, which stands
-in the log below a comment that says so: from there on the log answers what is sent, and above it what the longer head would have.
+in the log below a comment that says so. From there on the played log has the answers that are sent, and above it those of the
+longer head.
 """
 import collections
 import os
@@ -19,7 +20,7 @@ from tools.fronting.segments import NUMBERED, name_of
 MARK = MARK_ANSWER + b"\n"
 PIECE = 1 << 17  # octets of the log that are given at once
 # Why the front has a subscriber's registration end, in the log above that line.
-ANEW = runs.BEGUN_ANEW + "the front was given lines of %s, who was sent something else above than stands here; nobody withdrew it"
+ANEW = runs.BEGUN_ANEW + "the front was given lines for %s, who was sent other answers than the log gives above; nobody withdrew it"
 
 
 class Differs(Exception):

@@ -90,9 +90,9 @@ def counters(front):
 def alarms(front):
     """What somebody is to look after, in words by a name."""
     found = {}
-    if front.stock.few():
-        found["vectors"] = "%d of %d phones have %d vectors or fewer left." % (
-            front.stock.few(), len(front.stock.rands), limits.FEW_VECTORS)
+    if few := front.stock.few():
+        found["vectors"] = "%d of %d phones %s %d vectors or fewer left." % (
+            few, len(front.stock.rands), "has" if few == 1 else "have", limits.FEW_VECTORS)
     for series in front.soundness.series():
         if front.soundness.is_low(series):
             found[series.what] = "%d of %d segments of the log of %s are used." % (

@@ -63,7 +63,7 @@ def free_addresses(network, taken):
 
 
 def free_teid(taken):
-    """A TEID that can't be guessed, and that nobody has."""
+    """A random TEID that nobody has."""
     while (teid := secrets.randbits(32)) == 0 or teid in taken:
         pass
     taken.add(teid)
