@@ -2,7 +2,7 @@
 
 A name is there if the crate declares it or passes it on by `pub use`, from whatever crate below. A method is there if a public
 `impl` of the type has it, or a trait, with these types of its parameters and this result. Of the list itself: what takes the
-allocator takes it first and may answer want of memory, and no method takes it whose type keeps it; each form that is a decision has
+allocator takes it first and may answer lack of memory, and no method takes it whose type keeps it; each form that is a decision has
 its call in docs/DECISIONS.md; and each type of the elements of S1AP is listed. And of all crates: no public type has another's name,
 but for those of `SHARED`.
 """
@@ -153,7 +153,7 @@ def of_memory(lines):
         result = call[3] or ""
         is_maker = call[1].endswith("::new") and result == name_of(line)
         if not is_maker and not (result.startswith("Result<") and re.search(r"(\w+)>$", result)[1] in with_memory):
-            yield "%s takes the allocator, and can't answer want of memory" % call[1]
+            yield "%s takes the allocator, and can't answer lack of memory" % call[1]
 
 
 def without_reason(decided):

@@ -100,14 +100,14 @@ static void put_taken(struct text *answers, soizkadur_mme *mme, struct counts *c
     }
 }
 
-/* What is to be done after a call that may have been refused for want of memory: it is made again, or all of it. */
+/* What is to be done after a call that may have been refused for lack of memory: it is made again, or all of it. */
 enum next { GO_ON, AGAIN, ANEW };
 
 static enum next after(uint32_t answer, soizkadur_mme *mme, struct counts *counts)
 {
     if (answer == SOIZKADUR_NO_MEMORY) {
         counts->no_memory++;
-        must_be_as_before(mme, "a call that was refused for want of memory changed nothing");
+        must_be_as_before(mme, "a call that was refused for lack of memory changed nothing");
         return AGAIN;
     }
     if (answer == SOIZKADUR_LOST) {
@@ -320,7 +320,7 @@ static uint32_t gives(soizkadur_mme *mme, struct span imsi, size_t rand)
     return soizkadur_give_live(mme, octets(imsi), imsi.length, zeros, rand, zeros, 16, zeros, 8, zeros, 32);
 }
 
-/* What is provisioned while the MME of a trace runs is refused for other causes before it is for want of memory. */
+/* What is provisioned while the MME of a trace runs is refused for other causes before it is for lack of memory. */
 static void other_causes_first(const struct text *trace)
 {
     static const struct span nobody = {"001010000000777", 15}, no_imsi = {"0010100000007", 13};

@@ -8,7 +8,7 @@
  *                            and for each a line `told N` has the number that its call answers
  *
  * TRACE may be "-". Ends with status 1 and `mme: line N: fault M` where a line is wrong, as `mme play` does, and with status 4 for
- * want of memory. All ways but --lines are for traces whose lines are right.
+ * lack of memory. All ways but --lines are for traces whose lines are right.
  */
 #include "calls.h"
 

@@ -393,7 +393,7 @@ class InProcess(unittest.TestCase):
         self.assertEqual((sizes[-1], self.heard), (0, []))
 
     def test_faults(self):
-        """A line that is wrong, and want of memory, end it as they end the program, after the answers of before."""
+        """A line that is wrong, and lack of memory, end it as they end the program, after the answers of before."""
         for refusal, told, status in ((soizkadur.Refusal.UNKNOWN_WORD, "line 3: fault 1", 1),
                                       (soizkadur.Refusal.PROVISION, "line 3: fault 7", 1),
                                       (soizkadur.Refusal.NO_MEMORY, "out of memory", 4),

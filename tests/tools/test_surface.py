@@ -151,7 +151,7 @@ CHANGES = {
                                        "read_all takes the allocator, but not first"),
     "the allocator of a type that keeps it": (LIST, "Line::push(&mut self, u8", "Line::push(&mut self, Global, u8",
                                               "Line::push takes the allocator, which its type keeps"),
-    "no want of memory": (LIST, "Result<Vec<u8>, LineFault>", "Result<Vec<u8>, Mark>",
+    "no lack of memory": (LIST, "Result<Vec<u8>, LineFault>", "Result<Vec<u8>, Mark>",
                           "read_all takes the allocator, and can't answer"),
     "a decision without its reason": (LIST, "    Line::push", "    * Line::push",
                                       "Line::push is a decision, and docs/DECISIONS.md"),

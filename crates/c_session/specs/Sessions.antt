@@ -116,7 +116,7 @@ cancelled s imsi = imsi_of imsi >>= (λ i. happened s (event.Cancel i))
 abbrev pub ticks : ℕ → List Event
 ticks n = replicate n event.Tick
 
--- what events leave, each with its reply; one that was refused for want of memory has changed nothing
+-- what events leave, each with its reply; one that was refused for lack of memory has changed nothing
 pub record RanFrom (world : World) (events : List Event) (new : Session) : Type 0 where
   pub count : length new.replies ≡ length events
   pub said : replies_given new.replies ≡ replies world (events_taken events new.replies)

@@ -71,7 +71,7 @@ fn emm_of(phase: Phase) -> EmmState
     }
 }
 
-// Nobody was ever here, and so many vectors are taken.
+// A phone that was never here, the first `next_vector` of whose vectors are taken.
 fn solo_at_rest(next_vector: usize) -> Solo
     ensures { result ≡ record fresh_solo { next_vector = next_vector } }
 {

@@ -252,7 +252,7 @@ impl Counter {
         Counter { count: 0 }
     }
 
-    /// So many were given.
+    /// A counter of a slot that has given this many.
     pub fn of(count: u16) -> Counter
         ensures { result ≡ count }
     {

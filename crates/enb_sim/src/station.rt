@@ -140,7 +140,7 @@ impl Station {
     }
 
     /// Does an act: the octets to send, or `None` where there are none, since it can't be done or its NAS message is too long,
-    /// whatever memory there is. Refused for want of memory alone, and the station is then as it was.
+    /// whatever memory there is. Refused for lack of memory alone, and the station is then as it was.
     #[tactic(auto, unfolding(crate::specs::View::act_octets, crate::specs::View::can_act))]
     pub fn act(&mut self, act: &StationAct<'_>) -> Sent
         ensures octets { IfOk result (λ o. option_map (λ v. v.items) o ≡ act_octets act.now self.old) }
@@ -299,7 +299,7 @@ impl Station {
     }
 
     /// Takes S1AP octets of the MME. Octets that can't be read, and messages that ask nothing of a station, change nothing.
-    /// Refused for want of memory alone, and the station is then as it was.
+    /// Refused for lack of memory alone, and the station is then as it was.
     #[tactic(auto, unfolding(crate::specs::Delivering::delivered))]
     pub fn deliver<'a>(&mut self, octets: &'a [u8]) -> Result<Delivery<'a>, AllocError>
         ensures ok { IfOk result (λ d. seen_delivery d self.new ≡ delivered octets.entry.now self.old) }

@@ -31,7 +31,7 @@ impl<T> History<T> {
         History { of: PhantomData }
     }
 
-    /// Of this value, as it is now, so often.
+    /// This value, as it is now, `count` times.
     pub fn repeated(value: &T, count: usize) -> History<T>
         ensures { result.items ≡ replicate count value.now }
     {

@@ -183,7 +183,7 @@ impl Model for GivenVectors {
 }
 
 impl GivenVectors {
-    // This one so often, and then these.
+    // The husk once for each spent vector, then these.
     fn resumed(spent: usize, husk: &Vector, rest: &[Vector]) -> GivenVectors
         ensures { result ≡ replicate spent husk.now ++ rest.now }
     {

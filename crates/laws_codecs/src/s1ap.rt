@@ -34,7 +34,7 @@ pub fn one_s1ap_outcome()
     decoded_exactly();
 }
 
-/// Memory is no matter of octets.
+/// No octets decode to lack of memory.
 pub fn no_memory_is_no_fault()
     ensures { (os : List ℕ) → decoded os ≡ Err NoMemory → ⊥ }
 {}

@@ -1,4 +1,4 @@
--- Two phones that left are told alike, step by step.
+-- Two phones that have left are told the same, step by step.
 use Rattle.std.proofs.Common.{◌≡◌, ◌⊎◌, ℕ, Bool, true, false, cond, inl, inr, List, [], ◌∷◌, Option, Some, None, unwrap_or, refl, sym, ◌∙◌, ap}
 use Rattle.nas_elements.specs.Capability.{has_eia2}
 use Rattle.s1ap_elements.specs.declared.phone.Tai.{Tai}

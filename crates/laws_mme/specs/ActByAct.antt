@@ -48,7 +48,7 @@ AreActSteps first [] (r ∷ rs) last = ⊥
 AreActSteps first (a ∷ acts) [] last = ⊥
 AreActSteps first (a ∷ acts) (r ∷ rs) last = (next : World) × IsActStep first a r next × AreActSteps next acts rs last
 
--- ---- acts that were refused for want of memory are taken out of a list
+-- ---- acts that were refused for lack of memory are taken out of a list
 
 abbrev pub is_out_of_memory : ProvisionFault → Bool
 is_out_of_memory NoMemory = true
@@ -78,7 +78,7 @@ abbrev pub sent_in_taken : List ActAnswer → List (Result (List Out) StepFault)
 sent_in_taken [] = []
 sent_in_taken (r ∷ rs) = if wants_memory r then sent_in_taken rs else sent_in r ∷ sent_in_taken rs
 
--- the answers, but for those of want of memory, are the replies of the definition, and the last MME is the one after the acts
+-- the answers, but for those of lack of memory, are the replies of the definition, and the last MME is the one after the acts
 abbrev pub StepsAreActs : Type 0
 StepsAreActs =
     (first last : World) (acts : List Act) (rs : List ActAnswer) → AreActSteps first acts rs last

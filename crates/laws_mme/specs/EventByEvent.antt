@@ -20,7 +20,7 @@ AreSteps first [] (r ∷ rs) last = ⊥
 AreSteps first (e ∷ es) [] last = ⊥
 AreSteps first (e ∷ es) (r ∷ rs) last = (next : World) × IsStep first e r next × AreSteps next es rs last
 
--- the answers, but for those of want of memory, are the replies of the definition, and the last MME is the one after the run
+-- the answers, but for those of lack of memory, are the replies of the definition, and the last MME is the one after the run
 abbrev pub StepsAreARun : Type 0
 StepsAreARun =
     (first last : World) (es : List Event) (rs : List (Result (List Out) StepFault)) → AreSteps first es rs last

@@ -100,9 +100,9 @@ pub fn given_before_is_given_after()
     ensures { GivenBeforeIsGivenAfter }
 {}
 
-/// Over a list of acts that adds nobody, and by which no vector is refused and nobody runs out: its events are answered, and the
-/// MME is in the end, as where it had all vectors from the start. So a law of runs from the beginning on holds of those with
-/// vectors that come meanwhile, as of an MME that was provisioned with them.
+/// If a list of acts adds nobody, refuses no vector and leaves nobody without one, its events are answered, and the MME ends, as if
+/// it had had all vectors from the start. So a law of runs from the beginning also holds of runs in which vectors are given, as of
+/// an MME that was provisioned with them.
 pub fn given_early_is_given_late()
     ensures acts { GivenEarlyIsGivenLate }
     ensures from_start { BegunEarlyIsGivenLate }
@@ -111,8 +111,8 @@ pub fn given_early_is_given_late()
     what_is_given_stays_kept();
 }
 
-/// Who takes act by act has seen a list of them: what is answered, but for want of memory, are the replies of the definition to the
-/// acts that it stands at, and the MME is the one after them.
+/// A caller that takes one act after another has seen a list of them: its answers, lack of memory left out, are the replies of the
+/// definition to the acts that they stand at, and the MME is the one after them.
 pub fn steps_are_acts()
     ensures { StepsAreActs }
 {}

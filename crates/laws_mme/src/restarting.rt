@@ -7,8 +7,8 @@ use crate::giving::steps_look_at_two;
 use emm_machine::in_use_is_kept;
 
 /// Nobody can tell an MME from what is remembered of it: each act is answered the same, and the same is remembered afterwards. So
-/// it is over every list of acts with restarts between them, and what is said of the replies to acts, that no NAS COUNT is used
-/// twice under one key among it, is said of those.
+/// it is over every list of acts with restarts between them; what holds of the replies to acts holds of these, such as that no NAS
+/// COUNT is used twice under one key.
 pub fn nobody_can_tell()
     ensures acts { NobodyCanTell }
     ensures restarts { RestartsAreUnseen }

@@ -102,8 +102,8 @@ pub fn same_to_station()
     one_output();
 }
 
-/// Who takes event by event has seen a run: the answers, but for those of want of memory, are the replies of the definition to the
-/// events that they stand at, and the MME is the one after them.
+/// A caller that takes one event after another has seen a run: its answers, lack of memory left out, are the replies of the
+/// definition to the events that they stand at, and the MME is the one after them.
 pub fn steps_are_a_run()
     ensures { StepsAreARun }
 {}

@@ -22,8 +22,8 @@ pub fn runs_are_in_range()
 }
 
 /// At every step of every slot over such a run the setting, the state before it, its item and the state after it are in range: so
-/// the laws of one subscriber's machine apply to it, and each message that it builds is sent. By the event that comes next in a
-/// run, and by the slot's items alone.
+/// the laws of one subscriber's machine apply to it, and each message that it builds is sent. This is said of the next event in a
+/// run, and of the slot's items alone.
 pub fn steps_are_in_range()
     ensures next { StepsAreInRange }
     ensures alone { AloneStepsAreInRange }

@@ -29,7 +29,8 @@ pub fn idle_phones_are_forgotten()
     ensures all { AllElseEnds }
 {}
 
-/// So it is where nobody asks for anything, whatever else happens among the ticks: to stations, to associations, to other phones.
+/// The same holds if nobody asks for anything, whatever else happens between the ticks: to stations, to associations, to other
+/// phones.
 pub fn silent_phones_end()
     ensures procedure { SilentEnds }
     ensures forgotten { SilentIsForgotten }

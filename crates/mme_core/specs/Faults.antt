@@ -5,7 +5,7 @@ use Rattle.mme_core.specs.declared.event.StepFault.{StepFault}
 use Rattle.mme_answering.specs.declared.out.Out.{Out}
 use Rattle.mme_core.specs.World.{World, event_fault, is_no_memory, world_after}
 
--- the MME after an event with this reply: want of memory changes nothing
+-- the MME after an event with this reply: lack of memory changes nothing
 abbrev pub replied : Result (List Out) StepFault → Event → World → World
 replied r e w = if is_no_memory r then w else world_after w e
 

@@ -30,6 +30,6 @@ world_added p w = record {
 abbrev pub world_given : ℕ → Vector → World → World
 world_given slot v w = record { sight = w.sight; strangers = w.strangers; subscribers = given_at slot v w.subscribers }
 
--- why a vector for a slot is refused, want of memory apart
+-- why a vector for a slot is refused, lack of memory apart
 abbrev pub give_fault : ℕ → World → Option ProvisionFault
 give_fault slot w = if is_stocked_at slot w.subscribers then Some Full else None

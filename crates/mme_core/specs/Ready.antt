@@ -41,7 +41,7 @@ pub record LeadsTo (w : World) (event : Event) (r : Ready) : Type 0 where
   pub fits : IsFor r.prepared w.strangers w.subscribers
   pub in_time : IsInTime r.prepared w.sight.clock r.moves.clock
 
--- why an event isn't taken: its own fault, or want of memory where it has none
+-- why an event isn't taken: its own fault, or lack of memory where it has none
 abbrev pub IsRefused : World → Event → StepFault → Type 0
 IsRefused w event fault = (event_fault w.sight event ≡ Some fault) ⊎ ((fault ≡ NoMemory) × (event_fault w.sight event ≡ None))
 
@@ -53,7 +53,7 @@ pub record TakesEvent (w : World) (event : Event) (answer : Result (List Out) St
   pub short : IfOk answer (λ outs. AreShort outs)
   -- the MME once it is taken
   pub after : OnOk answer (next ≡ world_after w event)
-  -- its own fault, if it has one; want of memory is no answer to it then
+  -- its own fault, if it has one; lack of memory is no answer to it then
   pub fault : IfSome (event_fault w.sight event) (λ fault. answer ≡ Err fault)
   pub refused : IfErr answer (λ fault. fault ≢ NoMemory → reply w event ≡ Err fault)
   -- refused, it has changed nothing

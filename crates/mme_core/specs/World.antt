@@ -47,7 +47,7 @@ abbrev pub if_known : Option ℕ → Option StepFault
 if_known None = Some UnknownImsi
 if_known (Some slot) = None
 
--- the fault of an event, want of memory apart
+-- the fault of an event, lack of memory apart
 abbrev pub event_fault : Sight → Event → Option StepFault
 event_fault s (UpEvent e) = if_down (station_at s.stations e) None (Some AlreadyUp)
 event_fault s (LostEvent e) = if_down (station_at s.stations e) (Some NotUp) None
@@ -208,7 +208,7 @@ abbrev pub replies : World → List Event → List (Result (List Out) StepFault)
 replies w [] = []
 replies w (event ∷ events) = reply w event ∷ replies (world_after w event) events
 
--- ---- events that were refused for want of memory are taken out of a list
+-- ---- events that were refused for lack of memory are taken out of a list
 
 abbrev pub is_no_memory : Result (List Out) StepFault → Bool
 is_no_memory (Ok outs) = false

@@ -426,7 +426,7 @@ impl Surroundings {
         }
     }
 
-    // Why an event is refused, want of memory apart, where that is the slot that it names.
+    // Why an event is refused, lack of memory apart, where that is the slot that it names.
     fn fault_of(&self, event: &Event<'_>, named: &Option<Slot>) -> Option<StepFault>
         requires { named.now ≡ slot_named self.now event.now }
         ensures { result ≡ event_fault self.now event.now }

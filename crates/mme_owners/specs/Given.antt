@@ -19,7 +19,7 @@ is_stocked_at slot ws = option_map_or is_stocked (slice_get ws slot) true
 -- a vector is given to the subscriber of a slot: the answer, and all of them afterwards
 pub record TakesOneVector (slot : ℕ) (v : Vector) (old : List SubscriberView) (answer : Result (Unit {0}) ProvisionFault)
     (new : List SubscriberView) : Type 0 where
-  -- where the slot takes none it is refused as full, and else for want of memory alone
+  -- where the slot takes none it is refused as full, and else for lack of memory alone
   pub full : (answer ≡ Err Full) ↔ (is_stocked_at slot old ≡ true)
   pub fault : IfErr answer (λ fault. fault ≢ NoMemory → fault ≡ Full)
   -- that subscriber has it, and no other is another

@@ -28,7 +28,7 @@ pub fn one_message()
         → m ≡ n }
 {}
 
-/// What is encoded is read again, by whom the message goes to.
+/// What is encoded is read as the same message by its receiver.
 pub fn encoded_is_decoded()
     ensures { (direction : Direction) (m : Emm (List ℕ)) → IsWritable m → Goes direction m → decoded_emm direction (encoded_emm m)
         ≡ Ok m }

@@ -20,7 +20,7 @@ abbrev pub Answers : {X Y : Type 0} → (X → Y) → Result X S1apFault → Res
 Answers view (Ok x) read = read ≡ Ok (view x)
 Answers view (Err e) read = FailsAs e read
 
--- an answer that is never want of memory
+-- an answer that is never lack of memory
 abbrev pub WantsNoMemory : {X : Type 0} → Result X S1apFault → Type 0
 WantsNoMemory (Ok x) = Unit {0}
 WantsNoMemory (Err NoMemory) = ⊥

@@ -46,7 +46,7 @@ impl Crowd {
         self.plmn = plmn;
     }
 
-    /// There is a phone for this subscriber. Where there was one all is as it was. Refused for want of memory alone, and then all
+    /// There is a phone for this subscriber. Where there was one all is as it was. Refused for lack of memory alone, and then all
     /// is as it was, too.
     pub fn add_phone(&mut self, imsi: Imsi) -> Result<(), AllocError>
         ensures ok { OnOk result (self.new ≡ with_phone_for imsi self.old) }
@@ -56,7 +56,7 @@ impl Crowd {
     }
 
     /// The phone of that subscriber has one vector more, if there is such a phone. One that has done something before makes no
-    /// use of it. Refused for want of memory alone, and then all is as it was.
+    /// use of it. Refused for lack of memory alone, and then all is as it was.
     pub fn give_vector(&mut self, imsi: Imsi, vector: Vector) -> Result<(), AllocError>
         ensures ok { OnOk result (self.new ≡ with_vector_given imsi vector self.old) }
         ensures err { OnErr result (self.new ≡ self.old) }
@@ -64,7 +64,7 @@ impl Crowd {
         self.phones.give(imsi, vector)
     }
 
-    /// There is such a station: Skipped where one of that number was there, else Silent. Refused for want of memory alone, and then
+    /// There is such a station: Skipped where one of that number was there, else Silent. Refused for lack of memory alone, and then
     /// all is as it was.
     pub fn add_station(&mut self, line: StationLine) -> Result<Acted, AllocError>
         ensures ok { IfOk result (λ a. outcome a self.new ≡ adding_station line self.old) }
@@ -84,7 +84,7 @@ impl Crowd {
         self.stations.has(station)
     }
 
-    /// The station asks to be set up: Skipped where there is none. Refused for want of memory alone, and then all is as it was.
+    /// The station asks to be set up: Skipped where there is none. Refused for lack of memory alone, and then all is as it was.
     pub fn set_up(&mut self, station: StationNumber) -> Result<Acted, AllocError>
         ensures ok { IfOk result (λ a. outcome a self.new ≡ setting_up station self.old) }
         ensures err { OnErr result (self.new ≡ self.old) }
@@ -123,7 +123,7 @@ impl Crowd {
         }
     }
 
-    /// A phone does this where it is: Skipped where there is no such phone, or it can't be done. Refused for want of memory alone:
+    /// A phone does this where it is: Skipped where there is no such phone, or it can't be done. Refused for lack of memory alone:
     /// the phone may have spoken then, and where its path was moved it may have its new association, but nothing else changed.
     pub fn act(&mut self, word: PhoneWord, imsi: Imsi) -> Result<Acted, AllocError>
         ensures ok { IfOk result (λ a. outcome a self.new ≡ acting word imsi self.old) }
@@ -144,7 +144,7 @@ impl Crowd {
     }
 
     /// Hands a message of the MME to its station; what station and phone answer is appended to the queue, in that order. Refused
-    /// for want of memory alone: nothing is appended then, but the station and the phone may have taken the message.
+    /// for lack of memory alone: nothing is appended then, but the station and the phone may have taken the message.
     pub fn deliver(
         &mut self,
         station: StationNumber,

@@ -255,7 +255,7 @@ fn protected_answer(
 }
 
 /// What a phone of that IMSI and those vectors answers to NAS octets: to a plain message, or to one under its context. Refused for
-/// want of memory alone.
+/// lack of memory alone.
 #[tactic(auto, unfolding(crate::specs::Answering::phone_answer))]
 pub fn phone_answer(
     alloc: Global,

@@ -17,7 +17,7 @@ use std::alloc::{AllocError, Global};
 const COUNT_LIMIT: u32 = 1 << 24;
 
 /// ATTACH REQUEST (TS 24.301 clause 8.2.4), with or without the ESM information flag; what was kept of a registration is forgotten.
-/// Refused for want of memory alone.
+/// Refused for lack of memory alone.
 pub fn attach_saying(
     alloc: Global,
     identity: MobileIdentity,
@@ -90,7 +90,7 @@ fn service_with(
     })
 }
 
-/// SERVICE REQUEST (TS 24.301 clause 8.2.25), with a context of which a count is left; else nothing. Refused for want of memory
+/// SERVICE REQUEST (TS 24.301 clause 8.2.25), with a context of which a count is left; else nothing. Refused for lack of memory
 /// alone.
 pub fn service_saying(alloc: Global, registration: Registration) -> Result<Saying, AllocError>
     ensures { IfOk result (λ s. s ≡ service_saying registration) }
@@ -115,7 +115,7 @@ fn update_with(
 }
 
 /// TRACKING AREA UPDATE REQUEST (TS 24.301 clause 8.2.29), with a context of which a count is left, and a GUTI; else nothing.
-/// Refused for want of memory alone.
+/// Refused for lack of memory alone.
 pub fn update_saying(alloc: Global, registration: Registration) -> Result<Saying, AllocError>
     ensures { IfOk result (λ s. s ≡ update_saying registration) }
 {
@@ -137,7 +137,7 @@ fn identity_by(imsi: Imsi, guti: Option<Guti>) -> MobileIdentity
 }
 
 /// DETACH REQUEST (TS 24.301 clause 8.2.11): protected where there is a context, and then with a count of it, or nothing where none
-/// is left. Refused for want of memory alone.
+/// is left. Refused for lack of memory alone.
 pub fn detach_saying(
     alloc: Global,
     imsi: Imsi,

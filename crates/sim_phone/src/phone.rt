@@ -198,7 +198,7 @@ impl Phone {
     }
 
     /// Does an act: the octets to send, or `None` where it can't be done, whatever memory there is, and the phone is then as it
-    /// was. Refused for want of memory alone, and the phone is then as it was, too.
+    /// was. Refused for lack of memory alone, and the phone is then as it was, too.
     #[tactic(auto, unfolding(crate::specs::View::acted))]
     pub fn act(&mut self, act: PhoneAct) -> Result<Option<Vec<u8>>, AllocError>
         ensures octets { IfOk result (λ o. option_map (λ v. v.items) o ≡ (acted act self.old).octets) }
@@ -235,7 +235,7 @@ impl Phone {
     }
 
     /// Takes NAS octets of the network: the octets to answer, if any. A deaf phone answers nothing and stays as it is. Refused
-    /// for want of memory alone, and the phone is then as it was.
+    /// for lack of memory alone, and the phone is then as it was.
     #[tactic(auto, unfolding(crate::specs::View::hearing, crate::specs::Answering::phone_answer))]
     pub fn deliver(&mut self, nas: &[u8]) -> Result<Option<Vec<u8>>, AllocError>
         ensures octets { IfOk result (λ o. option_map (λ v. v.items) o ≡ (hearing nas.now self.old).octets) }

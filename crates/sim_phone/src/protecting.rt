@@ -123,7 +123,7 @@ pub(crate) fn taken_under<'a>(
 }
 
 /// The octets of a protected message, with a sequence number that is one higher, and its MAC as it was; nothing of octets in
-/// another form. Refused for want of memory alone.
+/// another form. Refused for lack of memory alone.
 pub fn forged(alloc: Global, sent: &[u8]) -> Result<Option<Vec<u8>>, AllocError>
     ensures { IfOk result (λ o. option_map (λ v. v.items) o ≡ forged_of (split sent.now)) }
 {

@@ -8,7 +8,7 @@ use Rattle.trace_progress.specs.declared.fault.PlayFault.TheVariants.{Trace, Rea
 abbrev pub LineRelation : Type 0 → Type 1
 LineRelation S = S → ℕ → List ℕ → Result (Unit {0}) PlayFault → S → List ℕ → Type 0
 
--- a fault is that of the line with this number; that a read failed is none of a line
+-- a fault is that of the line with this number; a failed read is of no line
 abbrev pub IsOfLine : ℕ → Result (Unit {0}) PlayFault → Type 0
 IsOfLine number (Ok _) = ⊤
 IsOfLine number (Err (Trace line fault)) = line ≡ number
