@@ -387,7 +387,7 @@ def the_nas_messages_of_a_row():
 def how_the_documents_read_an_answer():
     """The lines of docs/LIBRARY.md under "Messages and keys", over the row's INITIAL CONTEXT SETUP REQUEST."""
     text = (TOP / "docs" / "LIBRARY.md").read_text()
-    lines = re.search(r"\nWhat `soizkadur_nas` answers .*\n\n((?:    .*\n|\n)+)", text)[1]
+    lines = re.search(r"\n`soizkadur_nas` answers with .*\n\n((?:    .*\n|\n)+)", text)[1]
     out = soizkadur.Out(Owner.SUBSCRIBER, 0, 0, octets(OWED[3].split(" ")[3]))
     exec(textwrap.dedent(lines), {"out": out, "soizkadur": soizkadur})
 
