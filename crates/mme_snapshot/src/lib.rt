@@ -1,0 +1,10 @@
+//! Snapshots: an MME stored as octets, and octets restored to an MME.
+#![tactic(auto)]
+
+mod building;
+mod fault;
+mod parts;
+mod restoring;
+
+pub use fault::RestoreFault;
+pub use restoring::restore;
