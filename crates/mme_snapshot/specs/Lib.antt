@@ -1,2 +1,0 @@
-pub mod Images
-pub mod Restored
