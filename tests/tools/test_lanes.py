@@ -52,8 +52,17 @@ class Sharing(unittest.TestCase):
     def test_the_chain(self):
         tasks = Machine(4).tasks()
         behind = lanes.work_behind(tasks)
-        self.assertEqual((behind["low", "proof"], behind["side", "proof"], behind["small", "proof"]), (300, 90, 110))
+        lines = {name: behind[name, "proof"] % lanes.OF_ITSELF for name in ("low", "mid", "side", "small")}
+        self.assertEqual(lines, {"low": 300 % lanes.OF_ITSELF, "mid": 200, "side": 90, "small": 110})
+        self.assertEqual(behind["low", "proof"], 300 + 3 * lanes.OF_ITSELF)
         self.assertEqual(lanes.chain_of(tasks, behind), {("low", "proof"), ("mid", "proof"), ("top", "proof")})
+
+    def test_many_small_crates(self):
+        """Two crates that stand on one another take longer than one with a few lines more."""
+        chain = {"low": ((), 100), "one": (("low",), 150), "first": (("low",), 50), "second": (("low", "first"), 50)}
+        with unittest.mock.patch.dict(CRATES, chain, clear=True):
+            tasks = Machine(4).tasks()
+            self.assertEqual(lanes.chain_of(tasks, lanes.work_behind(tasks)), {(name, "proof") for name in ("low", "first", "second")})
 
     def test_each_task_once_with_what_it_waits_for(self):
         machine = Machine(4)

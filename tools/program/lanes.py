@@ -15,6 +15,8 @@ OF_CHAIN, MOST, FEWEST = 2, 4, 4
 # The share of what is free that tasks may take of memory, and what each further process of a proof takes of its memory.
 SHARE, OF_PROCESS = 0.85, 0.6
 PROOFS, FILLS = ("proof", "tests"), ("seed", "edits")
+# What a proof takes besides its lines, in lines: it reads the libraries below, and makes its own.
+OF_ITSELF = 300
 
 
 def work_behind(tasks):
@@ -22,7 +24,7 @@ def work_behind(tasks):
     behind = dict.fromkeys(tasks, 0)
     for key in reversed([*tasks]):
         waits, work, *_ = tasks[key]
-        behind[key] += work
+        behind[key] += work + OF_ITSELF * (key[1] == "proof")
         for it in waits:
             behind[it] = max(behind[it], behind[key])
     return behind
