@@ -18,7 +18,7 @@ use Rattle.{crate}.proofs.Anything.{{anything}}
 pub {name}_spec : {{M : Type 1}} → stated.statement M
 {name}_spec {{M}} = anything (stated.statement M)
 """
-# The forms of a function's proof, of which a crate has one.
+# The files of a function's proof: the whole of it, or the other two.
 FORMS = ("Proof.antt", "Invariants.antt", "Answers.antt")
 # What stands for the body of a function that is granted, so that nothing is worked out of it.
 NO_BODY = "unreachable!()"

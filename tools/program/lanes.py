@@ -54,7 +54,7 @@ class Sharing:
         return [it for it in self.left if all(below in self.given for below in self.tasks[it][0])]
 
     def is_idle_task(self, key):
-        """Whether there is nothing to do: no tests, or no edits."""
+        """Whether there is nothing to do: the tests of a crate without tests."""
         return key[1] == "tests" and not self.tasks[key][1]
 
     def idle(self):
