@@ -110,7 +110,8 @@ def searched(secrets, memory):
 
 def check_search():
     """Each form of a secret is found where it is planted, wherever that is; and so are eight octets of it, and no seven."""
-    secret = Secret("planted", "KASME", os.urandom(32))
+    # (no octet is 0, as those around it are: the match would be longer)
+    secret = Secret("planted", "KASME", bytes(1 + octet % 255 for octet in os.urandom(32)))
     for form, text in forms(secret.octets):
         for place in range(9):
             planted = Region("planted", 0, 0, bytes(place) + text + bytes(9))
