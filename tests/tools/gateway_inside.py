@@ -24,9 +24,10 @@ import unittest
 
 if __name__ == "__main__":
     sys.path[0] = str(pathlib.Path(__file__).resolve().parents[2])
-from tests.tools.gateway_world import (ADDRESS, FRONT_UNIT, GATEWAY, GATEWAY_UNIT, INTERNET, MACHINE, NET, PAGE_OF_FRONT, PATIENCE,
-                                       QUIET, STATIONS, Phone, World, capabilities_of, checksum, gtpu, inside, lay, links,
-                                       load_modules, lte, packet, phones, sh, until)
+from tests.tools import outward
+from tests.tools.gateway_world import (ADDRESS, FRONT_UNIT, GATEWAY, GATEWAY_UNIT, INTERNET, MACHINE, MODULES_OF_IPTABLES, NET,
+                                       OUTWARD, PAGE_OF_FRONT, PATIENCE, QUIET, STATIONS, Phone, World, capabilities_of, checksum,
+                                       gtpu, inside, lay, links, load_modules, lte, packet, phones, sh, until)
 from tests.tools.sctp_inside import Named, name_of
 from tests.tools.test_lab import DOCUMENT as LAB
 from tests.tools.test_lab import blocks
@@ -765,19 +766,29 @@ class Ends(unittest.TestCase):
 
 
 class Lab(unittest.TestCase):
-    """The commands of docs/LAB.md, but for those that load modules, and those of nftables, which this kernel hasn't."""
+    """The commands of docs/LAB.md, but for those that load modules, and those of nftables: that of this kernel lacks tables of IPv4
+    (CONFIG_NF_TABLES_IPV4) and chains that translate addresses (CONFIG_NFT_NAT). Rules of iptables stand for its lines, with the
+    gateway's own tunnels; test_lab.py tries the lines themselves under another kernel."""
 
+    # For each chain of the document, what does the same.
+    RULES = {
+        'chain outward { type nat hook postrouting priority srcnat; ip saddr 10.45.0.0/16 oifname != "mme-*" masquerade; }':
+            "iptables-legacy -t nat -A POSTROUTING -s 10.45.0.0/16 ! -o mme-+ -j MASQUERADE",
+        "chain segments { type filter hook forward priority mangle; tcp flags syn tcp option maxseg size set rt mtu; }":
+            "iptables-legacy -t mangle -A FORWARD -p tcp --tcp-flags SYN SYN -j TCPMSS --clamp-mss-to-pmtu",
+    }
     SUDO = """sudo() {
         case $1 in
             modprobe) ;;
-            nft) cat >/dev/null ;;
+            nft) cat >$lab/chains; ip netns exec %s sh -euc '%s' ;;
             *) ip netns exec %s "$@" ;;
         esac
     }
-    """ % MACHINE
+    """ % (MACHINE, "; ".join(RULES.values()), MACHINE)
 
     def test_lab(self):
-        """A phone of the list of SIMs attaches, and gets to the Internet."""
+        """Phones of the list of SIMs attach, and get to the Internet, also to where no route leads back."""
+        load_modules(MODULES_OF_IPTABLES)
         world = WORLDS.bare()
         text = LAB.read_text(encoding="utf-8")
         wanted = [block for block in blocks(text.partition("## 2.")[0]) if re.match("lab=|mkdir .*/names|cat >.lab/sims", block)]
@@ -792,19 +803,36 @@ class Lab(unittest.TestCase):
         self.addCleanup(lambda: os.killpg(running.pid, signal.SIGKILL))
         self.assertEqual(running.wait(PATIENCE), 0, (folder / "printed").read_text())
         self.assertIn("tunnel 001010000000001 -\n", (folder / "printed").read_text())
-        phone = self.phone_of(world, (folder / "net.subscribers").read_text().splitlines())
+        self.assertEqual(re.findall("chain .*", (folder / "chains").read_text()), list(self.RULES))
+        lines = (folder / "net.subscribers").read_text().splitlines()
         until(lambda: "the front tells of" in (folder / "gateway.says").read_text(), lambda: (folder / "gateway.says").read_text())
-        world.join(0)
-        phone.joins(0, 1)
+        for number in range(2):
+            world.phones.append(self.phone_of(world, number, lines))
+            world.join(number)
+            world.phones[number].joins(number, number + 1)
+        phone, other = world.phones
         self.assertEqual((echoes(NET, phone.ip), echoes(phone.name, INTERNET)), (3, 3))
+        self.translates(phone, other)
+
+    def translates(self, phone, other):
+        """What the document promises of the rules, and what is so without them; the Internet has no route to phones meanwhile."""
+        route = "ip -n %s route %%s default via %s" % (NET, OUTWARD)
+        self.addCleanup(sh, route % "add")
+        sh(route % "del")
+        for each in (phone, other):
+            sh("ip -n %s link set ue mtu 1500" % each.name)  # so that its own segments are too long
+        hosts = [outward.Host(each.name, each.ip) for each in (phone, other)] + [outward.Host(NET, INTERNET)]
+        outward.check(*hosts)
+        for table in ("nat", "mangle"):
+            sh("ip netns exec %s iptables-legacy -t %s -F" % (MACHINE, table))
+        outward.check_without(*hosts)
 
     @staticmethod
-    def phone_of(world, lines):
-        """The phone of the first line `sub`."""
-        _, imsi, address, _, teid = next(line for line in lines if line.startswith("sub ")).split(" ")
+    def phone_of(world, slot, lines):
+        """The phone of the line `sub` in this place."""
+        _, imsi, address, _, teid = [line for line in lines if line.startswith("sub ")][slot].split(" ")
         vectors = [phones.Vector(*map(bytes.fromhex, line.split(" ")[2:])) for line in lines if line.startswith("vec %s " % imsi)]
-        world.phones.append(Phone(world, 0, vectors, socket.inet_ntoa(bytes.fromhex(address)), int(teid, 16)))
-        return world.phones[0]
+        return Phone(world, slot, vectors, socket.inet_ntoa(bytes.fromhex(address)), int(teid, 16))
 
 
 class Worlds:

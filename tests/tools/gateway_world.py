@@ -25,6 +25,7 @@ PROGRAM = tools.TOP / "crates" / "mme" / "out" / "mme"
 FRONT, GATEWAY = ([sys.executable, "-S", tools.TOP / "tools" / name] for name in ("front", "gateway"))
 FRONT_UNIT, GATEWAY_UNIT = (tools.TOP / "deploy" / ("%s@.service" % name) for name in ("soizkadur", "soizkadur-gateway"))
 ADDRESS, INTERNET, PREFIX = "10.0.0.100", "198.51.100.2", "10.45.0.0/16"
+OUTWARD = "198.51.100.1"  # the machine's address on the Internet's side
 STATIONS = ("10.1.0.2", "10.2.0.2")
 MACHINE, NET = "core", "net"
 PATIENCE = 240  # seconds for what takes a moment where the machine has nothing else to do
@@ -32,7 +33,13 @@ QUIET = 0.2  # seconds in which what isn't to come would have come
 LONG_TICK = "86400"  # so that no timer of the MME's ends but where a test has it
 MODULES = ("drivers/net/veth", "drivers/net/tun", "drivers/net/gtp", "net/netfilter/nfnetlink", "net/netfilter/ipset/ip_set",
            "net/netfilter/ipset/ip_set_hash_ip", "net/sched/sch_ingress", "net/sched/cls_basic", "net/sched/em_ipset")
+# What iptables needs of modules to translate addresses and to cut sizes of segments.
+MODULES_OF_IPTABLES = (
+    "net/ipv4/netfilter/nf_defrag_ipv4", "net/ipv6/netfilter/nf_defrag_ipv6", "net/netfilter/nf_conntrack", "net/netfilter/nf_nat",
+    "net/netfilter/x_tables", "net/ipv4/netfilter/ip_tables", "net/ipv4/netfilter/iptable_nat",
+    "net/ipv4/netfilter/iptable_mangle", "net/netfilter/xt_MASQUERADE", "net/netfilter/xt_TCPMSS", "net/netfilter/xt_tcpudp")
 NEW_NETWORK = 0x40000000  # sched.h: CLONE_NEWNET
+HERE = "/proc/thread-self/ns/net"  # the namespace of whoever opens it
 LIBC = ctypes.CDLL(None, use_errno=True)
 S1AP_PORT, S1AP = 36412, 18
 PAGE, PAGE_OF_FRONT = 9200, 9100  # ports of the pages of the gateway and of the front
@@ -53,25 +60,33 @@ def sh(text):
     subprocess.run(["sh", "-euc", text], check=True)
 
 
-def load_modules():
+def load_modules(names=MODULES):
     folder = next(pathlib.Path("/usr/lib/uml/modules").glob("*/kernel"))
-    sh("\n".join("insmod %s/%s.ko" % (folder, name) for name in MODULES))
+    sh("\n".join("insmod %s/%s.ko" % (folder, name) for name in names))
 
 
-def switch(path):
-    with open(path, "rb") as file:
-        if LIBC.setns(file.fileno(), NEW_NETWORK):
-            raise OSError(ctypes.get_errno(), "setns")
+def switch(file):
+    if LIBC.setns(file.fileno(), NEW_NETWORK):
+        raise OSError(ctypes.get_errno(), "setns")
 
 
 @contextlib.contextmanager
 def inside(name):
-    """What is made within it belongs to a namespace."""
-    switch("/run/netns/" + name)
-    try:
-        yield
-    finally:
-        switch("/proc/1/ns/net")
+    """What is made within it belongs to a namespace, by its name or its path."""
+    with open(HERE, "rb") as home, open(os.path.join("/run/netns", name), "rb") as there:
+        switch(there)
+        try:
+            yield
+        finally:
+            switch(home)
+
+
+def add_unnamed():
+    """A namespace without a name: its path, which lasts as long as this process."""
+    with inside(HERE):
+        if LIBC.unshare(NEW_NETWORK):
+            raise OSError(ctypes.get_errno(), "unshare")
+        return "/proc/%d/fd/%d" % (os.getpid(), os.open(HERE, os.O_RDONLY | os.O_CLOEXEC))
 
 
 def add_namespace(name):
@@ -85,7 +100,7 @@ def lay():
     for name in (MACHINE, NET, "enb0", "enb1"):
         add_namespace(name)
     ends = [("s%d" % at, "enb%d" % at, "10.%d.0.1" % (at + 1), "10.%d.0.2" % (at + 1)) for at in range(2)]
-    for device, name, ours, theirs in [*ends, ("sgi", NET, "198.51.100.1", INTERNET)]:
+    for device, name, ours, theirs in [*ends, ("sgi", NET, OUTWARD, INTERNET)]:
         sh("""ip -n {4} link add {0} type veth peer name way netns {1}
         ip -n {4} addr add {2}/24 dev {0}; ip -n {4} link set {0} up
         ip -n {1} addr add {3}/24 dev way; ip -n {1} link set way up; ip -n {1} route add default via {2}""".format(

@@ -4,6 +4,7 @@ import json
 import os
 import pathlib
 import shlex
+import shutil
 import subprocess
 import sys
 import tempfile
@@ -25,6 +26,7 @@ def compile_into(folder):
 
 
 @unittest.skipIf(kernel.missing(), "no user-mode-linux, kmod, iproute2, lksctp-tools or C compiler")
+@unittest.skipUnless(shutil.which("iptables-legacy", path=kernel.PATH), "no iptables")
 @unittest.skipUnless(gateway_world.PROGRAM.exists(), "the program isn't built (./mme --prove)")
 class Gateway(unittest.TestCase):
     def test_inside(self):
