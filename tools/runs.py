@@ -17,14 +17,14 @@ import tempfile
 
 from tools import progress, s1ap, versions
 from tools.causes import nas_cause
-from tools.eps import holes, messages, quick
+from tools.eps import holes, messages, quick, timers
 
 LONGEST_LINE = 40000  # octets
 STATIONS = 128
 LONGEST_TICK = 1000000
-# No countdown of the MME is longer than its mobile reachable timer (T3412 of 54 minutes and 4 more, TS 24.301 table 10.2.2),
-# which can follow on a procedure of under a minute; so nothing is sent after that many ticks without another event.
-TICKS_WITH_ANSWERS = 3480 + 60
+# No countdown of the MME is longer than its mobile reachable timer, which can follow on a procedure of under a minute; so nothing is
+# sent after that many ticks without another event.
+TICKS_WITH_ANSWERS = timers.REACHABLE.seconds + 60
 FIRST_STRANGER = 1 << 31  # MME UE S1AP IDs from here on are strangers'
 SLOT_BITS = 16  # an id and an M-TMSI are a slot, and a counter of this many bits after it
 
@@ -365,9 +365,9 @@ TAU_ACCEPT = 0x49
 # ATTACH REJECT, DETACH ACCEPT, TRACKING AREA UPDATE REJECT, SERVICE REJECT and AUTHENTICATION REJECT: after them it ends.
 LAST_OF_CONNECTION = {0x44, 0x46, 0x4B, 0x4E, 0x54}
 TIMED_OUT = "nas unspecified"
-# The seconds of the timers that run after a NAS message: T3450, T3422, T3460, T3470 and T3489 (TS 24.301 tables 10.2.2, 10.3.2).
-TIMERS = {0x42: 6, 0x49: 6, 0x45: 6, 0x52: 6, 0x5D: 6, 0x55: 6, 0xD9: 4}
-PAGING_TIMER = 10  # T3413, which the network chooses (TS 24.301 table 10.2.2)
+# The timer that runs after a NAS message.
+TIMERS = {0x42: timers.T3450_ATTACH, 0x49: timers.T3450_UPDATE, 0x45: timers.T3422, 0x52: timers.T3460_CHALLENGE,
+          0x5D: timers.T3460_SECURITY, 0x55: timers.T3470, 0xD9: timers.T3489}
 
 # What is read of a message: first what is its own, then what others of its shape have too. `identity` is who the NAS message in it
 # says it is, by IMSI and by M-TMSI; `tmsi` the M-TMSI in the element S-TMSI; `outcome` a pair of its procedure's code and which of
@@ -549,9 +549,9 @@ class Causes:
         if said.outcome == (s1ap.SETUP, s1ap.SUCCESSFUL):
             self.ready.add(answer.station)
         kind = said.nas and said.nas.type
-        timer = PAGING_TIMER if said.code == s1ap.PAGING else TIMERS.get(kind)
+        timer = timers.T3413 if said.code == s1ap.PAGING else TIMERS.get(kind)
         if timer:
-            self.due[answer.owner] = second + timer
+            self.due[answer.owner] = second + timer.seconds
         if kind == TAU_ACCEPT and step.event.word == "in":
             first = content(step.event.octets).code == s1ap.INITIAL_UE
             (self.from_idle.add if first else self.from_idle.discard)(answer.owner)

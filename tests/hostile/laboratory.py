@@ -7,6 +7,7 @@ import collections
 from tests.hostile import projection, standards
 from tests.hostile.handsets import ELSEWHERE_GUTI, FOREIGN_GUTI, UNSPECIFIED, Handset, Said, Speech
 from tests.hostile.standards import IGNORE, INITIATING, REJECT, lte, phones
+from tools.eps import timers
 
 SUBSCRIBERS, PLENTY, FEW = 4, 64, 12  # subscribers; vectors of the first ones and of the last
 UNKNOWN_IMSI = "001010000000777"
@@ -191,7 +192,8 @@ class Laboratory:
 
     def passes(self):
         choice = self.rng.random()
-        return ["tick %d" % (self.rng.randint(1, 3) if choice < 0.75 else self.rng.randint(4, 40) if choice < 0.985 else 3480)]
+        ticks = self.rng.randint(1, 3) if choice < 0.75 else self.rng.randint(4, 40) if choice < 0.985 else timers.REACHABLE.seconds
+        return ["tick %d" % ticks]
 
     def notice(self):
         phone = self.rng.choice([phone for phone in self.phones if phone.registered] or self.phones)

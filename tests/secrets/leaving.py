@@ -1,5 +1,6 @@
 """The ways in which phones leave: each ends a challenge or a security context."""
 from soizkadur.standards import Station, lte
+from tools.eps import timers
 
 
 class Scene:
@@ -158,7 +159,7 @@ class Scene:
         for phone in several:
             self.lives(phone)
             phone.is_released()
-        self.trace.say("tick 3480")
+        self.trace.say("tick %d" % timers.REACHABLE.seconds)
 
     def with_the_station(self, *several):
         """The connection to their station is lost while one is challenged, one in security mode, and one accepted."""

@@ -12,10 +12,10 @@ import time
 from soizkadur.standards import FailingPhone, Vector, lte, phones
 from tests.secrets.residue import COUNTS, Secret, of_context, of_vector
 from tests.secrets.searching import Fault, regions
+from tools.eps import timers
 
 SECONDS = 300  # for the whole run of the program
 PIPE = 65536  # octets that a pipe holds, and that the program reads at once
-T3422, REPEATS_OF_T3422 = 6, 4  # seconds
 
 
 class Phone(FailingPhone):
@@ -77,7 +77,7 @@ class Phone(FailingPhone):
         """The same, and it is silent: DETACH REQUEST comes again until the network gives up."""
         self.trace.say("cancel " + self.imsi)
         self.owed_nas(self.protected_down(lte.NETWORK_DETACH))
-        self.holds_back(lambda: self.protected_down(lte.NETWORK_DETACH), T3422, REPEATS_OF_T3422)
+        self.holds_back(lambda: self.protected_down(lte.NETWORK_DETACH), timers.T3422.seconds, timers.T3422.repeats)
 
     def is_cancelled_unfinished(self):
         """Its subscription is withdrawn before it is registered; owed the release alone."""
