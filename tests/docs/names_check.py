@@ -9,8 +9,7 @@
 - A section that a document sends its reader to, as `FILE.md`, "Heading", is there: a heading, without its number if it has one, or
   the bold beginning of an item. So it is in all documents.
 - Any other piece of code stands in some file of the repository as it is, unless it is a command; `..` in it was left out.
-- A word of PROMISES.md that is the name of a lemma of specs/ names a contract too: a lemma alone is no promise. And each law is
-  there: each public function of a crate of laws, and of any other crate's module of laws.
+- A word of PROMISES.md that is the name of a lemma of specs/ names a contract too: a lemma alone is no promise.
 - Each row of PROOFS.md under "From promise to clause" has a crate's function, or several, with the clauses of their contracts behind a
   colon, definitions that are public in some crate's specs/, and edits that are there.
 """
@@ -29,7 +28,6 @@ MORE_DOCUMENTS = ("README.md", "bench/README.md", "deploy/README.md", "docs/*.md
 SPAN = r"`([^`]+)`"
 ITEM_PATH = re.compile(r"\w+(?:::\w+)+")
 SECTION = re.compile(r'`((?:\w+/)*\w+\.md)`(?:, | \(| )"([^"]+)"')
-LAWS = re.compile(r"crates/(?:laws_\w+/src/.*|\w+/src/laws(?:/.*)?)\.rt")
 PROMISED = "docs/PROMISES.md"
 PROMISES = "From promise to clause"
 COMMANDS = ("rt ", "git ")
@@ -149,15 +147,6 @@ def lemma_faults(tree):
                 yield number, "%s is a lemma of specs/ and no contract" % span if span in tree.bare_lemmas else None
 
 
-def unpromised(tree):
-    """The laws: for each its file and what is wrong, if PROMISES.md doesn't name it."""
-    promised = {word for span in re.findall(SPAN, tables.text(PROMISED)) for word in re.findall(r"\w+", span)}
-    for path, text in sorted(tree.code.items()):
-        if LAWS.fullmatch(path):
-            for law in re.findall(r"(?m)^pub fn (\w+)", text):
-                yield path, None if law in promised else "%s doesn't have the law %s" % (PROMISED, law)
-
-
 def faults_of(tree, path):
     """What was looked up in a document: for each its line and what is wrong, if anything."""
     fence, head, quoted = False, "", []
@@ -245,9 +234,6 @@ def checked(_words=()):
         for number, fault in found:
             passed += not fault
             faults += ["%s:%d: %s" % (path, number, fault)] if fault else []
-    for path, fault in unpromised(tree):
-        passed += not fault
-        faults += ["%s: %s" % (path, fault)] if fault else []
     for row in tables.read("docs/PROOFS.md").get(PROMISES, []) or [[""] * 4]:
         wrong = list(row_faults(tree, row)) if len(row) == 4 else ["%d cells" % len(row)]
         passed += not wrong

@@ -2,8 +2,8 @@
 
 ghost use Rattle.esm_machine.specs.Laws.{ActivationIsRead, AnswerKeepsTransaction, InformedIsAwaited, RequestStays};
 
-/// Octets that spell an activation are read as it: bearer 5, the transaction of the request that was taken, the APN, the
-/// address, and the cause where IPv4v6 was asked for.
+/// What `Bearer::activate` writes is read as the activation, with an APN of 1 to 63 octets: bearer 5, the transaction of the
+/// request that was taken, the APN, the address, and the cause where IPv4v6 was asked for.
 pub fn activation_is_read()
     ensures { ActivationIsRead }
 {}

@@ -8,8 +8,8 @@ ghost use Rattle.laws_apart.specs.Associations.{EachIdOnce, FoundExactly};
 use laws_codecs::decoded_is_in_range;
 use laws_subscriber::connections_come_so;
 
-/// A connection's id is the slot's own, or that of a stranger at its station and number, and over every list of items it stays so,
-/// where each stranger that is claimed has such an id.
+/// A connection's id is the slot's own, or made of the station and the number where it is, as a stranger's; so it stays over every
+/// list of items in which each claimed stranger has such an id.
 pub fn ids_are_made()
     ensures own { IdsAreMade }
     ensures run { IdsStayMade }
@@ -25,14 +25,14 @@ pub fn octets_go_made()
     decoded_is_in_range();
 }
 
-/// A stranger that waits has the id that is made of its station and number, and so has one that is claimed.
+/// A stranger that waits, or is claimed, has the id that is made of its station and number.
 pub fn strangers_have_made_ids()
     ensures waits { WaitsStayMade }
     ensures claims { ItemClaimsMade }
 {}
 
-/// The id of each connection is its slot's own, or that of a stranger whom this slot holds, at the station and number that it is
-/// made of: so it is where nobody is connected, and so it stays at each event.
+/// Each connection's id is its slot's own, or that of a stranger whom this slot holds, at the station and number that it is made
+/// of: so it is where nobody is connected, and so it stays at each event.
 pub fn ids_stay_apart()
     ensures begins { BeginsApart }
     ensures stays { StaysApart }
@@ -46,8 +46,8 @@ pub fn no_two_share_an_id()
     ensures waiting { NoneHasWaiting }
 {}
 
-/// The associations of an MME, those of its subscribers and those of the strangers that wait, are a map by id: each id stands once,
-/// and it leads to whoever has it.
+/// The associations of an MME, its subscribers' and the waiting strangers', are a map by id: each id stands once, and alone says
+/// whose an association is, and where.
 pub fn associations_are_a_map()
     ensures once { EachIdOnce }
     ensures found { FoundExactly }

@@ -13,7 +13,8 @@ ghost use Rattle.laws_codecs.specs.Components.{Component, HasSpelling, IsFaultOf
 ghost use Rattle.laws_codecs.specs.PerFaults.{ComponentsOf, HasFaultAmong, HasPerFault, HasWholeFault};
 ghost use Rattle.laws_codecs.specs.MessageFaults.{FrameComponents, HeadComponents, TailComponents};
 
-/// A component has a spelling at a place or one fault there, never both.
+/// A component has a spelling at a place or one fault there, never both: of several things that are wrong with it (`IsWrong`), the
+/// fault with the lowest number.
 pub fn component_outcome()
     ensures some { (c : Component) (s : Place) → HasSpelling c s ⊎ ((fault : PerFault) × IsFaultOf c s fault) }
     ensures one { (c : Component) (s : Place) (fault : PerFault) → HasSpelling c s → IsFaultOf c s fault → ⊥ }
@@ -21,8 +22,8 @@ pub fn component_outcome()
         → fault ≡ other }
 {}
 
-/// A fault that reading a value answers is that of the leftmost component that has no spelling at its place, by the lowest number
-/// of what is wrong there (X.691). All to its left is spelled.
+/// A fault that reading a value (`read_at`) answers is one that the bits have (`HasPerFault`): that of the leftmost component
+/// without a spelling; all to its left is spelled (X.691).
 pub fn fault_is_named()
     ensures { (f : Format) (s : Place) (fault : PerFault) → read_at f s ≡ Err fault → HasPerFault f s fault }
 {}
@@ -32,7 +33,7 @@ pub fn named_is_fault()
     ensures { (f : Format) (s : Place) (fault : PerFault) → HasPerFault f s fault → read_at f s ≡ Err fault }
 {}
 
-/// From a place on bits spell one value, up to one place, or they have one fault, of one component at one place; never both.
+/// From a place on, bits spell one value, up to one place, or have one fault, of one component at one place; never both.
 pub fn one_outcome()
     ensures some { (f : Format) (s : Place)
         → ((v : Value f) × (t : Place) × Takes (Spells f) s v t) ⊎ ((fault : PerFault) × HasPerFault f s fault) }
@@ -44,7 +45,7 @@ pub fn one_outcome()
         → (fault ≡ other) × (p.component ≡ q.component) × (p.place ≡ q.place) }
 {}
 
-/// Where bits spell a value, each of its components that stands has a spelling; where they have a fault, each but the one with the
+/// Where bits spell a value, each of its components that stands is spelled; where they have a fault, each but the one with the
 /// fault.
 pub fn components_are_spelled()
     ensures all { (f : Format) (s t : Place) (v : Value f) (c : Component) (here : Place) → Takes (Spells f) s v t
@@ -53,8 +54,7 @@ pub fn components_are_spelled()
         → ComponentsOf f s c here → HasSpelling c here ⊎ ((c ≡ p.component) × (here ≡ p.place)) }
 {}
 
-/// A fault that reading octets as one complete encoding answers is that of the leftmost component without a spelling, the padding
-/// and the end of the octets among them.
+/// What `fault_is_named` says holds of octets as one complete encoding, with its last padding and what follows it.
 pub fn fault_of_whole_is_named()
     ensures { (f : Format) (os : List ℕ) (fault : PerFault) → complete_at f os ≡ Err fault → HasWholeFault f os fault }
 {}
@@ -64,7 +64,7 @@ pub fn named_is_fault_of_whole()
     ensures { (f : Format) (os : List ℕ) (fault : PerFault) → HasWholeFault f os fault → complete_at f os ≡ Err fault }
 {}
 
-/// Octets spell a value as one complete encoding, or they have one fault, of one component at one place; never both.
+/// Octets spell a value as one complete encoding, or have one fault, of one component at one place; never both.
 pub fn one_whole_outcome()
     ensures some { (f : Format) (os : List ℕ)
         → ((v : Value f) × SpellsWhole f v os) ⊎ ((fault : PerFault) × HasWholeFault f os fault) }
@@ -74,8 +74,8 @@ pub fn one_whole_outcome()
         (q : HasWholeFault f os other) → (fault ≡ other) × (p.component ≡ q.component) × (p.place ≡ q.place) }
 {}
 
-/// Reading the parts of an S1AP message beside its elements (TS 36.413 clause 9.3) answers a fault exactly where their components
-/// have it: the frame with its end, the extension bit with the number of elements, and what stands after the elements.
+/// Reading the parts of an S1AP message beside its elements answers a fault exactly if their components have it: the frame with its
+/// end, the extension bit with the number of elements, and what follows the elements (TS 36.413 clause 9.3).
 pub fn message_parts_by_components()
     ensures frame { (os : List ℕ) (fault : PerFault)
         → (whole_at frame_at os ≡ Err fault) ↔ HasFaultAmong (FrameComponents os) fault }

@@ -22,7 +22,7 @@ pub fn named_is_emm_fault()
     fault_is_named();
 }
 
-/// Octets spell an EMM message of that direction or have a fault, never both, and never two faults.
+/// Octets spell an EMM message of the given direction or have one fault, never both.
 pub fn one_emm_outcome()
     ensures some { (direction : Direction) (os : List ℕ) → ((m : Emm (List ℕ)) × SpellsEmm direction m os)
         ⊎ ((fault : NasFault) × HasFault direction os fault) }
@@ -45,7 +45,7 @@ pub fn named_is_esm_fault()
     fault_of_esm_is_named();
 }
 
-/// Octets spell an ESM message or have a fault, never both, and never two faults.
+/// Octets spell an ESM message or have one fault, never both.
 pub fn one_esm_outcome()
     ensures some { (os : List ℕ) → ((m : Esm (List ℕ)) × SpellsEsm m os) ⊎ ((fault : NasFault) × HasEsmFault os fault) }
     ensures one { (os : List ℕ) (m : Esm (List ℕ)) (fault : NasFault) → SpellsEsm m os → HasEsmFault os fault → ⊥ }

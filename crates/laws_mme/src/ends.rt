@@ -7,9 +7,9 @@ use laws_subscriber::{
 };
 use mme_core::{slots_end, worlds_are_kept};
 
-/// Ticks reach every subscriber. In as many in a row as the longest procedure lasts (`longest_procedure`, 30) no procedure is under
-/// way any more, nobody is paged and no stranger waits; and in `longest_registration` (3510) each phone is deregistered that wasn't
-/// registered and connected.
+/// Ticks reach every subscriber. After 30 in a row (`longest_procedure`), whatever an MME heard before, no procedure is under way,
+/// nobody is paged and no stranger waits; after 3,510 (`longest_registration`) each phone is deregistered, unless it was registered
+/// and connected.
 pub fn everything_ends()
     ensures reach { TicksReachEveryone }
     ensures all { AllEndsInTime }
@@ -22,9 +22,8 @@ pub fn everything_ends()
     strangers_are_closed();
 }
 
-/// A phone that says nothing over a list of events, that no data comes for and whose subscription stays, is in no procedure any
-/// more once `longest_procedure` of them were ticks, whatever the list has for others; and deregistered once `longest_registration`
-/// were, if it wasn't registered and connected.
+/// A phone that says nothing over a list of events, for which no data comes and whose subscription stays, is in no procedure once
+/// 30 of the events were ticks, whatever the others are; and deregistered once 3,510 were, unless it was registered and connected.
 pub fn silent_slots_end()
     ensures procedure { SilentSlotEnds }
     ensures forgotten { SilentSlotIsForgotten }

@@ -10,10 +10,11 @@ use mme_core::{slots_end, worlds_are_kept};
 use nas_security::accepted_is_fresh;
 use s1ap_pdus::what_is_encoded;
 
-/// Over every run of a subscriber who was never seen, each INITIAL CONTEXT SETUP REQUEST has a KeNB of one of the slot's vectors
-/// by an uplink NAS COUNT, and each PATH SWITCH REQUEST ACKNOWLEDGE a next hop after such a KeNB, with the hop's number modulo 8;
-/// each goes to the station of the phone's connection, with its ids. The vectors' places, the counts of one vector and the hops
-/// of one count rise, so no KeNB and no next hop is handed out twice (TS 33.401 clauses 7.2.8.1, 7.2.8.4.2, A.3, A.4).
+/// Over every run of a subscriber who was never seen, each INITIAL CONTEXT SETUP REQUEST and each PATH SWITCH REQUEST ACKNOWLEDGE
+/// goes to the station of the phone's connection after the step, with its ids, and has a key of one of the slot's vectors: the
+/// former KeNB of an uplink NAS COUNT, the latter a hop of the chain after it, the second or a later one, with its number modulo 8.
+/// In the order in which they are sent the vectors' places rise, for one vector the counts, for one count the hops, KeNB first: so
+/// no KeNB and no next hop is handed out twice (TS 33.401 clauses 7.2.8.1, 7.2.8.4.2, A.3, A.4).
 pub fn keys_are_fresh()
     ensures { KeysAreFresh }
 {
@@ -21,9 +22,8 @@ pub fn keys_are_fresh()
     what_is_encoded();
 }
 
-/// At every step of every run, KeNB in what is sent is of the vector and of the count that the step accepted a message under; but
-/// where the phone was asked for ESM information it is the one that its context had before the step (TS 33.401 clauses 7.2.8.1,
-/// A.3).
+/// At every step of every run, a KeNB that is sent is of the vector and the count under which the step accepted a message or, if
+/// the phone was asked for ESM information, that of the context before the step (TS 33.401 clauses 7.2.8.1, A.3).
 pub fn kenb_is_of_its_message()
     ensures { KenbsAreOfTheirMessages }
 {
@@ -31,7 +31,7 @@ pub fn kenb_is_of_its_message()
     what_is_encoded();
 }
 
-/// What an MME sends for each subscriber over every list of events has fresh keys too, whatever octets stations send.
+/// The same holds for each subscriber of an MME, which sends radio keys to nobody else (`everything_is_of_an_mme`).
 pub fn an_mme_hands_out_fresh_keys()
     ensures { MmeKeysAreFresh }
 {

@@ -13,23 +13,21 @@ use emm_machine::in_use_is_kept;
 use laws_subscriber::{clocks_are_kept, soundness_is_kept};
 use mme_core::{ids_are_apart, one_output, slots_end, worlds_are_kept};
 
-/// A step of a subscriber's machine looks at two vectors at most: the next one, where the item may have the phone challenged, and
-/// that of a challenge which is out. With another list that is the same there it does the same; and so does a run.
+/// A step of a subscriber's machine looks at two vectors at most: the next one, if the item may have the phone challenged, and that
+/// of an open challenge. Another list that is the same there changes nothing, nor over a run.
 pub fn steps_look_at_two()
     ensures step { StepsLookAtTwo }
     ensures run { RunsLookAtTwo }
 {}
 
-/// A list of items is answered the same by a machine that has further vectors at the end of its list, unless a vector was asked
-/// for where none was left.
+/// Further vectors at the end of a machine's list change nothing over a list of items, unless one was asked for when none was left.
 pub fn vectors_may_come_late()
     ensures { VectorsMayComeLate }
 {
     soundness_is_kept();
 }
 
-/// What always holds of an MME holds where it is given a vector or a subscriber more: so over every list of acts, whatever octets
-/// stations send.
+/// What always holds of an MME (`IsKept`) holds where it is given a vector or a subscriber more, and so over every list of acts.
 pub fn what_is_given_stays_kept()
     ensures given { GivenStaysKept }
     ensures added { AddedStaysKept }
@@ -38,7 +36,7 @@ pub fn what_is_given_stays_kept()
     worlds_are_kept();
 }
 
-/// And over every list of acts no two phones share an association's id (TS 36.413 clause 9.2.3.3).
+/// And over every list of acts no two phones share an association's id (`AreApart`).
 pub fn ids_stay_apart_over_acts()
     ensures given { GivenStaysApart }
     ensures added { AddedStaysApart }
@@ -48,15 +46,15 @@ pub fn ids_stay_apart_over_acts()
     what_is_given_stays_kept();
 }
 
-/// A list of events is one of acts, and a list of acts goes on from where the one before it leads. So each law of events from any
-/// MME on holds of those between one thing that it is given and the next.
+/// A list of events is one of acts, and a list of acts goes on from where the one before it leads: so `laws_mme::runs` holds
+/// between one gift and the next.
 pub fn acts_join()
     ensures events { EventsAreActs }
     ensures join { ActsJoin }
 {}
 
-/// At each act of a list a slot is told what its one machine sends, over the items, the vectors and the profile that the acts have
-/// for it, and is in that machine's states after it, whatever others are sent or given.
+/// What `slots_run_alone` says of events holds of acts, over the items, the vectors and the profile that they have for the slot,
+/// whatever others are given; a slot that isn't provisioned yet is told nothing.
 pub fn slots_act_alone()
     ensures told { SlotIsToldOverActs }
     ensures states { SlotGoesThroughStatesOverActs }
@@ -67,8 +65,7 @@ pub fn slots_act_alone()
     what_is_given_stays_kept();
 }
 
-/// At each act of a list a stranger is told what its one machine sends, by who is provisioned then, and after the list it is as
-/// that machine is.
+/// What `strangers_run_alone` says of events holds of acts, by who is provisioned at each.
 pub fn strangers_act_alone()
     ensures told { StrangerIsToldOverActs }
     ensures state { StrangerGoesAloneOverActs }
@@ -77,7 +74,7 @@ pub fn strangers_act_alone()
     what_is_given_stays_kept();
 }
 
-/// At each act of a list a station is told what its own events lead to, and after the list it is as they left it.
+/// What `stations_run_alone` says of events holds of acts.
 pub fn stations_act_alone()
     ensures told { StationIsToldOverActs }
     ensures state { StationGoesAloneOverActs }
@@ -95,14 +92,13 @@ pub fn replies_to_acts_are_in_order()
 }
 
 /// Given a vector before an event or after it, an MME answers the same and is the same, unless the event asks for a vector of that
-/// slot where none is left.
+/// slot when none is left.
 pub fn given_before_is_given_after()
     ensures { GivenBeforeIsGivenAfter }
 {}
 
 /// If a list of acts adds nobody, refuses no vector and leaves nobody without one, its events are answered, and the MME ends, as if
-/// it had had all vectors from the start. So a law of runs from the beginning also holds of runs in which vectors are given, as of
-/// an MME that was provisioned with them.
+/// it had had all vectors from the start. So laws of runs from the beginning hold where vectors come later.
 pub fn given_early_is_given_late()
     ensures acts { GivenEarlyIsGivenLate }
     ensures from_start { BegunEarlyIsGivenLate }
@@ -111,8 +107,7 @@ pub fn given_early_is_given_late()
     what_is_given_stays_kept();
 }
 
-/// A caller that takes one act after another has seen a list of them: its answers, lack of memory left out, are the replies of the
-/// definition to the acts that they stand at, and the MME is the one after them.
+/// A caller that takes one act after another has seen a list of them, as `steps_are_a_run` says of events.
 pub fn steps_are_acts()
     ensures { StepsAreActs }
 {}

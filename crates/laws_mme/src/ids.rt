@@ -7,9 +7,8 @@ ghost use Rattle.laws_mme.specs.Reached.{MessagesReach};
 
 use laws_apart::strangers_have_made_ids;
 
-/// In an MME, from its beginning on and over every list of events, whatever octets stations send, the id of each connection is its
-/// slot's own, or that of a stranger whom this slot holds, at the station and number that it is made of; and each stranger that a
-/// slot's items claim has such an id.
+/// Over every run of an MME the ids of connections are as `ids_stay_apart` says, and each stranger that a slot's items claim has
+/// the id that is made of its station and number.
 pub fn ids_of_an_mme_are_apart()
     ensures begins { MmeBeginsApart }
     ensures stays { IdsStayApart }
@@ -29,8 +28,7 @@ pub fn no_two_ever_share_an_id()
     laws_apart::no_two_share_an_id();
 }
 
-/// The associations of an MME, those of its subscribers and those of the strangers that wait, are a map by id: each id stands once,
-/// and it leads to whoever has it.
+/// Over every run of an MME its associations are as `associations_are_a_map` says.
 pub fn associations_stay_a_map()
     ensures once { EachIdOnceInMme }
     ensures runs { EachIdOnceInRuns }
@@ -40,8 +38,7 @@ pub fn associations_stay_a_map()
     laws_apart::associations_are_a_map();
 }
 
-/// So what a station sends with the id of a phone's connection reaches that phone's subscriber, and no other (TS 36.413 clause
-/// 9.2.3.3).
+/// So what a station that is set up sends with the id of a phone's connection reaches that phone's subscriber, and no other.
 pub fn messages_reach_their_phone()
     ensures { MessagesReach }
 {}

@@ -6,9 +6,9 @@ ghost use Rattle.laws_mme.specs.Restarts.{NobodyCanTell, RememberedStaysApart, R
 use crate::giving::steps_look_at_two;
 use emm_machine::in_use_is_kept;
 
-/// Nobody can tell an MME from what is remembered of it: each act is answered the same, and the same is remembered afterwards. So
-/// it is over every list of acts with restarts between them; what holds of the replies to acts holds of these, such as that no NAS
-/// COUNT is used twice under one key.
+/// Nobody can tell an MME from what is remembered of it: each act is answered the same, and the same is remembered afterwards, over
+/// every list of acts with restarts anywhere between them. No phone is sent a different octet, and so no NAS COUNT is used twice
+/// under one key.
 pub fn nobody_can_tell()
     ensures acts { NobodyCanTell }
     ensures restarts { RestartsAreUnseen }

@@ -58,8 +58,8 @@ pub fn runs_are_fresh()
     vector_makes_one_context();
 }
 
-/// Over a list of events who is let in has proved that it has the key, radio keys go to the proved alone, and what carries no
-/// right MAC leaves a registered phone.
+/// Over a list of events whoever is let in has proved that it has the key, radio keys go to the proved alone, and what has no
+/// correct MAC leaves a registered phone registered, as `laws_subscriber::admission` says.
 pub fn runs_are_guarded()
     ensures { RunIsGuarded }
 {
@@ -70,7 +70,8 @@ pub fn runs_are_guarded()
     unproved_leaves();
 }
 
-/// Over a list of events the countdown of a phone's phase runs and no other, and where the phone is silent its procedure ends.
+/// Over a list of events the countdown of a phone's phase runs and no other, and where the phone is silent its procedure ends, as
+/// `laws_subscriber::ends` says.
 pub fn runs_end()
     ensures { RunEnds }
 {
@@ -78,14 +79,14 @@ pub fn runs_end()
     silent_phones_end();
 }
 
-/// A list of events that goes on with another one has the replies of both, and leads where the second leads from the first.
+/// A list of events followed by another has the replies to both, and leaves the MME that the second one leaves.
 pub fn runs_join()
     ensures replies { RepliesJoin }
     ensures worlds { WorldsJoin }
 {}
 
-/// Two lists of events that have the same inputs for a stranger, where those that have nothing for it are left out, tell it the
-/// same messages in the same order and leave it the same.
+/// Two lists of events with the same inputs for a stranger, apart from those that are nothing, tell it the same messages in the
+/// same order and leave it the same, if the same subscribers are provisioned.
 pub fn same_to_stranger()
     ensures machine { SameToStranger }
     ensures mme { SameStrangerFromMme }
@@ -93,8 +94,8 @@ pub fn same_to_stranger()
     one_output();
 }
 
-/// Two lists of events that have the same events of a station tell it the same messages in the same order and leave it in the same
-/// state.
+/// And so two lists with the same events of a station tell it the same and leave it in the same state, if network, provisioning and
+/// the station's state are the same.
 pub fn same_to_station()
     ensures machine { SameToStation }
     ensures mme { SameStationFromMme }
@@ -102,8 +103,8 @@ pub fn same_to_station()
     one_output();
 }
 
-/// A caller that takes one event after another has seen a run: its answers, lack of memory left out, are the replies of the
-/// definition to the events that they stand at, and the MME is the one after them.
+/// A caller that takes one event after another has seen a run: its answers, lack of memory left out, are the replies to the events
+/// at which they stand, and the MME is the one after them.
 pub fn steps_are_a_run()
     ensures { StepsAreARun }
 {}

@@ -8,7 +8,7 @@ ghost use Rattle.laws_mme.specs.EventByEvent.{IsStep};
 use identity_slots::{Profile, ProvisionFault, Slot, Vector};
 use mme_core::{Event, Mme, Outs, StepFault};
 
-/// One event, by `Mme::step`: what its caller has seen is a step (`IsStep`), of which `steps_are_a_run` speaks.
+/// What a caller has seen of one `Mme::step` is a step (`IsStep`), of which `steps_are_a_run` speaks.
 pub fn step_once(mme: &mut Mme, event: &Event<'_>) -> Result<Outs, StepFault>
     ensures step { IsStep mme.old event.now result mme.new }
     ensures fault { IfSome (event_fault mme.old.sight event.now) (λ fault. result ≡ Err fault) }
@@ -17,14 +17,14 @@ pub fn step_once(mme: &mut Mme, event: &Event<'_>) -> Result<Outs, StepFault>
     mme.step(event)
 }
 
-/// One subscriber more, by `Mme::add`: what its caller has seen is a step of those of which `steps_are_acts` speaks.
+/// What a caller has seen of one `Mme::add` is a step of those of which `steps_are_acts` speaks.
 pub fn add_once(mme: &mut Mme, profile: Profile) -> Result<Slot, ProvisionFault>
     ensures { IsAdding mme.old profile result mme.new }
 {
     mme.add(profile)
 }
 
-/// One vector more for a slot, by `Mme::give`: the same.
+/// What a caller has seen of one `Mme::give` is such a step, too.
 pub fn give_once(mme: &mut Mme, slot: Slot, vector: Vector) -> Result<(), ProvisionFault>
     requires { slot < length mme.old.sight.profiles }
     ensures { IsGiving mme.old slot vector result mme.new }

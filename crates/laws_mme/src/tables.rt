@@ -4,7 +4,7 @@
 ghost use Rattle.laws_mme.specs.StrangerTables.{AllTurn, OneTurns, QuietNotice, StationSilent, StrangerTicksAreAged};
 ghost use Rattle.laws_mme.specs.SubscriberTables.{AllSendAsDue, AllSendAsTouched, QuietTick, StillStays, TickIsOfAll, TicksAreAged, TouchedIsOfAll, UndueSendNothing};
 
-/// An item that `still` tells of leaves a subscriber's state as it is, and nothing is sent.
+/// An item for which `still` holds changes nothing in a subscriber's state, and sends nothing.
 pub fn still_stays()
     ensures { StillStays }
 {}
@@ -14,22 +14,22 @@ pub fn quiet_tick()
     ensures { QuietTick }
 {}
 
-/// Where each countdown that runs has more than n ticks left, n ticks count each down by n and leave all else; and so of a
-/// stranger's T3470, where they don't end it.
+/// Where each countdown that runs has more than N ticks left, N ticks count each down by N and leave all else; and so a stranger's
+/// T3470, where they don't end it.
 pub fn ticks_are_aged()
     ensures subscriber { TicksAreAged }
     ensures stranger { StrangerTicksAreAged }
 {}
 
-/// Where those who are due were prepared for a tick, each subscriber is as after it; who isn't due sends nothing at it, and so
-/// what all send is what the due ones send.
+/// Where those who are due were prepared for a tick, each subscriber is as after it; who isn't due sends nothing at it, and so what
+/// they send is all that is sent.
 pub fn tick_is_of_all()
     ensures states { TickIsOfAll }
     ensures silent { UndueSendNothing }
     ensures sent { AllSendAsDue }
 {}
 
-/// Where those whom an item touches were prepared for it, each subscriber is as after it, and what all send is what they send.
+/// Where those whom an item touches were prepared for it, each subscriber is as after it, and what they send is all that is sent.
 pub fn touched_is_of_all()
     ensures states { TouchedIsOfAll }
     ensures sent { AllSendAsTouched }

@@ -8,8 +8,9 @@ use crate::messages::phone_messages_are_written;
 use crate::sizes::short_messages_are_written;
 use laws_codecs::decoded_is_in_range;
 
-/// An S1 SETUP REQUEST, a RESET of the interface and one of a part that was read, octets with a fault that has a cause, a message
-/// out of place and one with the id of nobody are each answered: the answer has a written form (TS 36.413 clauses 8.7, 10).
+/// An S1 SETUP REQUEST, a RESET at a station that is set up (one of a part with all its items in their order), octets with a fault
+/// that has a cause, a message out of place and one with the id of nobody are each answered: the answer has a written form
+/// (TS 36.413 clauses 8.7, 10).
 pub fn stations_are_answered()
     ensures setup { SetupIsAnswered }
     ensures reset { ResetIsAnswered }
@@ -32,8 +33,8 @@ pub fn strangers_are_answered()
     phone_messages_are_written();
 }
 
-/// What stations tell of phones is in range: the premise of the laws of one subscriber's machine holds of every INITIAL UE MESSAGE
-/// and every message with an MME UE S1AP ID that is decoded, and the list of a RESET has ids in range (TS 36.413 clause 9.1).
+/// What stations tell of phones is in range, as the laws of one subscriber's machine require: each decoded INITIAL UE MESSAGE and
+/// message with an MME UE S1AP ID, and the ids in a RESET's list (TS 36.413 clause 9.1).
 pub fn what_stations_tell_is_in_range()
     ensures entries { EntriesAreInRange }
     ensures messages { MessagesAreInRange }

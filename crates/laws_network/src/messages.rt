@@ -25,8 +25,8 @@ ghost use Rattle.laws_network.specs.Ranges.{ConnectionInRange, IsBrief, IsBriefI
 
 use crate::sizes::short_messages_are_written;
 
-/// Each S1AP message that is built for a phone has a written form, where its parts are in range and its NAS message has at most
-/// 15000 octets (TS 36.413 clause 9.1).
+/// Each S1AP message that is built for a phone has a written form, if its parts are in range and its NAS message has at most 15,000
+/// octets (TS 36.413 clause 9.1).
 pub fn phone_messages_are_written()
     ensures nas { (k : Connection) (nas : List ℕ) → ConnectionInRange k → IsBrief 15000 nas → IsWritten (downlink k nas) }
     ensures release { (id enb_ue_id : ℕ) (c : Cause) → id < 2 ^ 32 → enb_ue_id < 2 ^ 24 → is_extended c ≡ false
@@ -46,8 +46,8 @@ pub fn phone_messages_are_written()
     short_messages_are_written();
 }
 
-/// Each NAS message of mobility management that is built of parts in range has at most 1000 octets, where the ESM message in it has
-/// at most 200 (TS 24.301 clause 8.2).
+/// Each EMM message that is built of parts in range has at most 1,000 octets, if the ESM message in it has at most 200 (TS 24.301
+/// clause 8.2).
 pub fn nas_messages_are_brief()
     ensures attach_rejected { (cause : EmmCause) (esm : Option (List ℕ)) → IsBriefIf 200 esm
         → IsBrief 1000 (attach_reject cause esm) }
@@ -78,7 +78,7 @@ pub fn esm_messages_are_brief()
 {}
 
 /// Keys that are derived are octets, radio keys 32 of them; a MAC under a key of octets is octets; and the protected form of a NAS
-/// message of at most 1000 octets has at most 1100 (TS 33.401, annexes A and B.2; TS 24.301 clause 9.1).
+/// message of at most 1,000 octets has at most 1,100 (TS 33.401, annexes A and B.2; TS 24.301 clause 9.1).
 pub fn keys_and_forms_are_octets()
     ensures radio { (kasme : List ℕ) (count : ℕ) → AreBytes 32 (kenb kasme count) }
     ensures hop { (kasme previous : List ℕ) → AreBytes 32 (next_hop kasme previous) }

@@ -11,8 +11,7 @@ use identity_slots::{Profile, Provision, Slot, Vector};
 use mme_core::Config;
 use mme_types::Network;
 
-/// What goes into messages of a configuration and of a provisioning is in range, whatever they are: this is the premise of the
-/// laws, for the two that an MME is made of. It changes nothing and takes no memory.
+/// What goes into messages of a configuration and of a provisioning is in range, whatever they are.
 pub fn provisioned_is_in_range(config: &Config, provision: &Provision)
     ensures { IsProvisionedInRange config.now provision.now }
 {

@@ -10,8 +10,8 @@ use crate::answers::{
 use crate::messages::phone_messages_are_written;
 use crate::subscriber::{every_message_is_sent, proved_were_challenged, ranges_are_kept};
 
-/// An MME whose configuration and provisioning are in range, as all are, begins in range, and stays so over every list of events,
-/// whatever octets stations send; and the items that the list has for a slot are in range.
+/// An MME whose configuration and provisioning are in range, as all are, begins in range, with all subscribers and waiting
+/// strangers, and stays so over every run; and the items that a run has for a slot are in range.
 pub fn runs_are_in_range()
     ensures begins { BeginsInRange }
     ensures stays { WorldStaysInRange }
@@ -21,9 +21,8 @@ pub fn runs_are_in_range()
     what_stations_tell_is_in_range();
 }
 
-/// At every step of every slot over such a run the setting, the state before it, its item and the state after it are in range: so
-/// the laws of one subscriber's machine apply to it, and each message that it builds is sent. This is said of the next event in a
-/// run, and of the slot's items alone.
+/// At every step of such a run a slot's setting, its item and the states before and after it are in range: so the laws of one
+/// subscriber's machine apply, and each message that it builds is sent; and so over the slot's items alone.
 pub fn steps_are_in_range()
     ensures next { StepsAreInRange }
     ensures alone { AloneStepsAreInRange }

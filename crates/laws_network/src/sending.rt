@@ -13,35 +13,35 @@ use crate::stations::everybody_is_placed;
 use laws_mme::work_is_bounded;
 use s1ap_pdus::what_is_encoded;
 
-/// Each message that is sent at an event is read as one that an MME sends, and as one of those that are sent for a station, for a
-/// stranger or for a subscriber: so PAGING, radio keys and requests for a context go out for subscribers alone (TS 36.413 clause
-/// 8).
+/// Each message is read as one that an MME sends for its owner: S1 SETUP RESPONSE and FAILURE and RESET ACKNOWLEDGE for a station
+/// alone, radio keys and PAGING for a subscriber alone (TS 36.413 clause 8).
 pub fn everything_is_of_an_mme()
     ensures { EverythingIsOfAnMme }
 {
     what_is_encoded();
 }
 
-/// Each NAS message that is sent for a subscriber is the written form of one that a network sends, plain or in its protected form,
-/// at every step of every run (TS 24.301 clauses 8.2, 8.3, 9.1).
+/// Each NAS message for a subscriber is the written form of one that a network sends, plain or in its protected form, at every step
+/// of every run (TS 24.301 clauses 8.2, 8.3, 9.1).
 pub fn nas_is_of_a_network()
     ensures { SaysOfNetwork }
 {
     what_is_encoded();
 }
 
-/// What is sent for a subscriber at a step has the ids of the phone's connection and goes to its station: as it was before the
-/// step, or as the item makes it; but for the answer to a request that is refused, for ERROR INDICATION and PATH SWITCH REQUEST
-/// FAILURE, which go back to where the item came from, and for PAGING (TS 36.413 clauses 9.2.3.3, 9.2.3.4).
+/// What is sent for a subscriber at a step has the ids of the phone's connection and goes to its station, as it was before the step
+/// or as the item makes it. The exceptions: the answer to a refused request, which goes back on the slot's next id; ERROR
+/// INDICATION and PATH SWITCH REQUEST FAILURE, which go to where the item came from; and PAGING (TS 36.413 clauses 9.2.3.3,
+/// 9.2.3.4).
 pub fn each_goes_on_its_association()
     ensures { AllAreAssociated }
 {
     what_is_encoded();
 }
 
-/// What a station sends makes an MME send at most three messages. A tick makes it send one for each stranger, and for each
-/// subscriber one, or one to each station that the phone was paged at; data that waits one to each station, and a withdrawn
-/// subscription one.
+/// A message of a station makes an MME send at most three; a tick one for each stranger, and for each subscriber one, or one to
+/// each station where its phone was paged; waiting data one to each station; a withdrawn subscription one; a station that comes or
+/// goes none.
 pub fn an_event_sends_few()
     ensures { EventsSendFew }
 {
@@ -49,8 +49,7 @@ pub fn an_event_sends_few()
     work_is_bounded();
 }
 
-/// What an MME keeps for a phone to send again has at most 1,000 octets, or is a list of at most 128 stations: after every list of
-/// events, whatever octets stations send.
+/// What an MME keeps for a phone to be sent again has at most 1,000 octets, or is a list of at most 128 stations, over every run.
 pub fn a_phone_keeps_little()
     ensures { PhonesKeepLittle }
 {
@@ -58,8 +57,7 @@ pub fn a_phone_keeps_little()
     runs_are_in_range();
 }
 
-/// Of each message that has an element with a key, KeNB or NH, zeros stand in place of all octets once it is forgotten
-/// (`SentOctets::forget`): its procedure's code is one of the two that are looked for.
+/// A message with an element that holds a key, KeNB or NH, is left as zeros once it is forgotten (`SentOctets::forget`).
 pub fn keys_are_overwritten()
     ensures { KeysAreOverwritten }
 {}

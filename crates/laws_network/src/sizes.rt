@@ -10,13 +10,13 @@ ghost use Rattle.laws_network.specs.Sizes.{IsShortMessage, in_range, most_octets
 use s1ap_pdus::encoded_exactly;
 
 /// The written form of a value has at most as many octets as its format and its strings say, wherever it stands; and a value with
-/// its numbers in range, its lists of a length that is allowed and at most 16383 octets in all is writable.
+/// its numbers in range, its lists of a length that is allowed and at most 16,383 octets in all is writable.
 pub fn short_values_are_writable()
     ensures size { (f : Format) (v : Value f) (at : ℕ) → length (written f v at) ≤ 8 * most_octets f v }
     ensures writable { (f : Format) (v : Value f) → in_range f v ≡ true → most_octets f v ≤ 16383 → IsWritable f v }
 {}
 
-/// A message with each value in range and at most 16000 octets has a written form.
+/// A message with each value in range and at most 16,000 octets has a written form.
 pub fn short_messages_are_written()
     ensures writable { (m : Pdu (List ℕ)) → IsShortMessage m → IsWritableMessage m }
     ensures written { (m : Pdu (List ℕ)) → IsShortMessage m → (os : List ℕ) × (encoded m ≡ Some os) }

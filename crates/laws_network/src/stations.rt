@@ -8,8 +8,8 @@ ghost use Rattle.laws_network.specs.Spoken.{LeavesEmpty, SpeaksToTheReady};
 use crate::answers::what_stations_tell_is_in_range;
 use s1ap_pdus::decoded_exactly;
 
-/// Octets that spell no S1AP message of the profile leave the MME as it was, and at most one message is sent for them, to their
-/// station. Wherever they stand in a list of events, all that comes after them and all other replies are as without them
+/// Octets that spell no S1AP message of the profile don't change the MME, and at most one message is sent for them, to their
+/// station. Wherever they stand in a list of events, the MME after it and the replies to all other events are as without them
 /// (TS 36.413 clause 10).
 pub fn garbage_reaches_nobody()
     ensures event { GarbageReachesNobody }
@@ -18,9 +18,9 @@ pub fn garbage_reaches_nobody()
     decoded_exactly();
 }
 
-/// Each connection, and each stranger that waits or is held, is at a station that is set up, and paging that is to be sent again
-/// goes to stations that are set up and broadcast the phone's tracking area, to each once: from an MME's beginning on and over
-/// every list of events, whatever octets stations send (TS 36.413 clauses 8.5, 8.7.3).
+/// Over every run each connection, and each stranger that waits or is held, is at a station that is set up, and paging is repeated
+/// only at stations that are set up and broadcast the tracking area in which the phone was accepted, once at each (TS 36.413
+/// clauses 8.5, 8.7.3).
 pub fn everybody_is_placed()
     ensures begins { BeginsPlaced }
     ensures stays { StaysPlaced }
@@ -28,8 +28,8 @@ pub fn everybody_is_placed()
     what_stations_tell_is_in_range();
 }
 
-/// What is sent for subscribers and strangers goes to stations that are set up, before the event and after it; what is sent for a
-/// station goes to it, and it is connected.
+/// So what is sent for subscribers and strangers goes to stations that are set up before and after the event, and what is sent for
+/// a station goes to it while it is connected.
 pub fn only_ready_stations_are_spoken_to()
     ensures { SpeaksToTheReady }
 {

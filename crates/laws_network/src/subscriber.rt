@@ -7,8 +7,8 @@ ghost use Rattle.laws_network.specs.Whole.{AttachRefusedIsWhole, ChallengedIsWho
 use crate::messages::phone_messages_are_written;
 use nas_messages::{decoded_esm_is_spelled, decoded_is_spelled};
 
-/// A subscriber who was never seen is in range, and over every run of what is in range the state stays so: the ids and keys that go
-/// into messages, and the NAS message that is sent again.
+/// A subscriber who was never seen is in range, and what is in range stays so over every run: the ids and keys that go into
+/// messages, and the NAS message that is sent again.
 pub fn ranges_are_kept()
     ensures fresh { SoloInRange fresh_solo }
     ensures run { StaysInRange }
@@ -18,7 +18,7 @@ pub fn ranges_are_kept()
     phone_messages_are_written();
 }
 
-/// Each message that a step builds is sent, where its setting, its state and its item are in range: none is without a written form.
+/// Each message that a step builds is sent, if its setting, its state and its item are in range.
 pub fn every_message_is_sent()
     ensures { EveryMessageIsSent }
 {

@@ -15,8 +15,7 @@ use nas_elements::Imsi;
 use s1ap_elements::STmsi;
 use sim_phone::permanent;
 
-/// A new phone is in range, whatever its IMSI and its vectors are: this is the premise of the laws. It changes nothing and takes
-/// no memory.
+/// A new phone is in range, whatever its IMSI and its vectors are.
 pub fn phones_begin_in_range(imsi: Imsi, vectors: &[Vector])
     ensures { PhoneInRange (new_phone imsi vectors.now) }
 {
@@ -44,7 +43,7 @@ fn octets_are_below(octets: &[u8])
     let _ = octets;
 }
 
-/// A new station is in range, whatever its profile is: this is the premise of the laws. It changes nothing and takes no memory.
+/// A new station is in range, whatever its profile is.
 pub fn stations_begin_in_range(profile: StationProfile)
     ensures { StationInRange (new_station profile) }
 {
@@ -59,7 +58,7 @@ fn site_is_in_range(profile: StationProfile)
     let _tac = profile.tac;
 }
 
-/// An act whose NAS message has at most 15,000 octets is in range, as that of a phone is. It changes nothing and takes no memory.
+/// An act whose NAS message has at most 15,000 octets is in range, as that of a phone is.
 pub fn acts_are_in_range(act: &StationAct<'_>)
     requires { IfSome (nas_of_act act.now) (λ nas. length nas ≤ 15000) }
     ensures { ActInRange act.now }

@@ -10,7 +10,8 @@ use laws_mme::{
 use laws_network::{everybody_is_placed, what_stations_tell_is_in_range};
 use mme_core::{ids_are_apart, same_to_slot, worlds_are_kept};
 
-/// What happens in a trace happens to an MME that nobody has spoken to before, with a slot for each who is provisioned.
+/// The MME of a trace is one as `Mme::new` makes it, at the first event or question, with a slot for each who is provisioned; so
+/// what holds for every such MME holds for it.
 pub fn runs_begin_fresh()
     ensures { RunBeginsFresh }
 {}
@@ -20,8 +21,8 @@ pub fn no_run_prints_nothing()
     ensures { NothingIsPrinted }
 {}
 
-/// In what a trace prints, the lines of `sN` are those of slot N's machine over its projection of the trace; a slot that isn't
-/// provisioned has none. So of lines that any MME is given.
+/// In what a trace prints, the lines of `sN` are what slot N's one machine sends over its projection of the trace, each with its
+/// station and its octets, in order; a slot that isn't provisioned has none. So of lines that any MME is given.
 pub fn slots_are_printed()
     ensures trace { SlotIsPrinted }
     ensures absent { NobodyIsPrinted }
@@ -32,7 +33,7 @@ pub fn slots_are_printed()
     ids_are_apart();
 }
 
-/// The lines of `xE.B` are those of the machine of the stranger with the number B at station E, over what the trace has for it.
+/// So the lines of `xE.B` are those of the machine of the stranger with the number B at station E, over what the trace has for it.
 pub fn strangers_are_printed()
     ensures trace { StrangerIsPrinted }
     ensures mme { StrangerIsPrintedFrom }
@@ -44,7 +45,7 @@ pub fn strangers_are_printed()
     what_stations_tell_is_in_range();
 }
 
-/// The lines of `eE` are those that station E's own events lead to.
+/// So the lines of `eE` are those that station E's own events lead to.
 pub fn stations_are_printed()
     ensures trace { StationIsPrinted }
     ensures mme { StationIsPrintedFrom }
@@ -53,8 +54,8 @@ pub fn stations_are_printed()
     ids_are_apart();
 }
 
-/// Two traces that have the same items for a slot, where those that have nothing for it are left out, print the same lines for it;
-/// and so for a stranger, by what reaches it, and for a station, by its events.
+/// Two traces with the same items for a slot, apart from those that are nothing, print the same lines for it; so for a stranger, if
+/// the same subscribers are provisioned, and for a station, if network and provisioning are the same.
 pub fn same_is_printed_alike()
     ensures slot { SameSlotIsPrinted }
     ensures stranger { SameStrangerIsPrinted }
@@ -68,10 +69,9 @@ pub fn same_is_printed_alike()
     same_to_station();
 }
 
-/// In what a simulation prints, up to the end of its script or to a line that has a fault, the lines that begin with `# out` and
-/// the name of an owner are those of its own machine over what the printed trace has for it: of `sN` those of slot N's machine, of
-/// `xE.B` those of the stranger with the number B at station E, of `eE` what station E's own events lead to. They are, after `# `,
-/// what is printed for the owner where the output is played as a trace; where no line of it comes to an MME there are none.
+/// In what a simulation prints, up to the end of its script or to a line that has a fault, the lines that begin with `# out` and an
+/// owner's name are, after `# `, those that are printed for that owner if the output is played; so they are those of its own
+/// machine. If no line comes to an MME, there are none.
 pub fn simulations_are_printed()
     ensures played { CommentsArePlayed }
     ensures nothing { NothingIsSimulated }

@@ -11,9 +11,10 @@ use nas_messages::{
 };
 use s1ap_messages::what_is_encoded;
 
-/// Each NAS message that a phone sends is what is written of a value of the profile, and is decoded as it: plain, or split as the
-/// protected form in which one stands (TS 24.301 clauses 8.2, 8.3 and 9.1). By each act, the lies among them, to whatever octets
-/// the network sends, and over every list of both. It has at most 1,100 octets. A phone stays in range, and begins so.
+/// Each NAS message that a phone sends, by any acts and to whatever octets the network sends, is written from a value of the
+/// profile that goes from phones to the network, and is decoded as it; so is the ESM message within, and the message in the
+/// protected form. The two acts that lie send only the protected form. None has more than 1,100 octets. A phone begins in range,
+/// and stays so (TS 24.301 clauses 8.2, 8.3 and 9.1).
 pub fn phones_send_nas()
     ensures acts { ActsMoveWell }
     ensures lies { LiesAreForms }
@@ -29,9 +30,10 @@ pub fn phones_send_nas()
     decoded_esm_is_spelled();
 }
 
-/// Each S1AP message that a station sends is what is written of a value of the profile, and is decoded as it (TS 36.413 clause
-/// 9.1): by each act that can be done, with the NAS message that was handed to the station for it; and to whatever octets the MME
-/// sends, what is owed to them. An act that can't be done sends nothing. A station stays in range, and begins so.
+/// By each possible act whose NAS message has at most 15,000 octets, a station sends what is written from the act's message and is
+/// decoded as it, with the NAS message that was handed to it. Whatever octets come, INITIAL CONTEXT SETUP RESPONSE and UE CONTEXT
+/// RELEASE COMPLETE are sent if they are owed, and nothing else. An act that can't be done sends nothing. A station begins in
+/// range, and stays so (TS 36.413 clause 9.1).
 pub fn stations_send_s1ap()
     ensures acts { ActsAreSent }
     ensures others { OthersAreSilent }

@@ -13,8 +13,9 @@ use eps_keys::same_is_equal;
 use nas_security::accepted_is_fresh;
 use s1ap_pdus::what_is_encoded;
 
-/// A subscriber who was never seen is sound, and over every run what is sound stays so: the context is the vector at its place, the
-/// phase says whether there are a context, a connection and a challenge, and nothing that is repeated plain has a security header.
+/// A subscriber who was never seen is sound, and stays so over every run (`IsSound`): its context is the vector at its place; its
+/// radio keys come from the context's KASME and a count that it accepted, by some number of path switches; the phase says whether
+/// there are a context, a connection and an open challenge; and nothing that is repeated plain has a security header.
 pub fn soundness_is_kept()
     ensures fresh { (s : Setting) → IsSound s fresh_solo }
     ensures run { StaysSound }
@@ -22,9 +23,9 @@ pub fn soundness_is_kept()
     accepted_is_fresh();
 }
 
-/// Over every run each message that is sent is one of the grammar, and the NAS messages with a security header are, one for one and
-/// in order, the protected forms under the marks of what is sent, by the keys of the vectors at their places (TS 24.301 clause
-/// 4.4.3).
+/// Over every run each message that is sent decodes, and the NAS messages among them with a security header are, one for one and in
+/// order, the protected forms under the marks that are sent, by the keys of the vectors at their places. What has no mark has no
+/// security header (TS 24.301 clause 4.4.3).
 pub fn protected_forms_are_marked()
     ensures each { SendsMarked }
     ensures order { SendsInOrder }
@@ -33,9 +34,9 @@ pub fn protected_forms_are_marked()
     what_is_encoded();
 }
 
-/// Who is past the proof has proved that it has the key of the context that stands, since it was last deregistered: it was
-/// challenged by the vector at its place, gave the expected response, and completed the security mode under its key
-/// (TS 24.301 clauses 5.4.2, 5.4.3).
+/// A phone that was deregistered and is past the proof (asked for ESM information, accepted, registered, updating or detaching) was
+/// challenged by the vector of its context, answered what that vector expects, and completed the security mode under its key with
+/// the header of a new context, in this order, without being deregistered in between (TS 24.301 clauses 5.4.2, 5.4.3).
 pub fn registered_by_proof()
     ensures { RegisteredByProof }
 {
@@ -43,9 +44,9 @@ pub fn registered_by_proof()
     same_is_equal();
 }
 
-/// Each message with a radio key goes to the station and number of the phone's connection, past the proof, and the key is that of
-/// the context; over every run from where the phone was deregistered, it has by then proved that it has the key of this context
-/// (TS 33.401 clauses 6.2, 7.2.8).
+/// INITIAL CONTEXT SETUP REQUEST and PATH SWITCH REQUEST ACKNOWLEDGE go only to the station and number of the phone's connection,
+/// only past the proof, with a key of the context; over every run from where the phone was deregistered, the whole proof came
+/// before (TS 33.401 clauses 6.2, 7.2.8).
 pub fn keys_go_to_the_proved()
     ensures each { KeysToTheProved }
     ensures run { KeysByProof }
@@ -55,8 +56,10 @@ pub fn keys_go_to_the_proved()
     same_is_equal();
 }
 
-/// A message without a right MAC leaves a registered phone's context, bearer and M-TMSI as they are, and the phone registered: but
-/// for an ATTACH REQUEST, and for a path switch, which takes the next hop (TS 24.301 clause 4.4.4.3).
+/// A message without a correct MAC leaves a registered phone registered, with its context, bearer, M-TMSI, tracking area and next
+/// vector. Two exceptions: an ATTACH REQUEST (by the phone, or by a stranger who tells the IMSI) begins anew, whoever sends it; a
+/// PATH SWITCH REQUEST on the phone's association takes the next hop of its radio keys. The clock and the withdrawn subscription
+/// aren't messages (TS 24.301 clause 4.4.4.3).
 pub fn unproved_leaves()
     ensures { UnprovedLeaves }
 {}

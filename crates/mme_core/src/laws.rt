@@ -8,8 +8,8 @@ use emm_machine::in_use_is_kept;
 use laws_apart::{ids_stay_apart, octets_go_made};
 use laws_subscriber::{clocks_are_kept, soundness_is_kept, strangers_are_closed};
 
-/// Two lists of events that have the same items for a slot, where those that have nothing for it are left out, tell the slot
-/// the same messages in the same order and leave it in the same state.
+/// Two lists of events with the same items for a slot, apart from those that are nothing, tell it the same messages in the same
+/// order and leave it in the same state; configurations, stations and strangers may differ.
 pub fn same_to_slot()
     ensures machine { SameToSlot }
     ensures mme { SameFromMme }
@@ -21,8 +21,7 @@ pub fn slots_end()
     ensures { GoesAlone }
 {}
 
-/// What always holds of an MME: it begins so, and every list of events keeps it so, whatever octets stations send, and so does a
-/// vector or a subscriber more.
+/// What always holds of an MME (`IsKept`): it begins so, and every run keeps it so, and so does a vector or a subscriber more.
 pub fn worlds_are_kept()
     ensures begins { BeginsKept }
     ensures stays { StaysKept }
@@ -35,9 +34,8 @@ pub fn worlds_are_kept()
     strangers_are_closed();
 }
 
-/// No two phones share an association's id (TS 36.413 clause 9.2.3.3): an MME begins so, and every list of events keeps it so,
-/// whatever octets stations send, since a stranger that begins has the id that is made of its station and number; and so does a
-/// vector or a subscriber more.
+/// No two phones share an association's id (`AreApart`): an MME begins so, and every run keeps it so, and so does a vector or a
+/// subscriber more, since a stranger that begins has the id that is made of its station and number (TS 36.413 clause 9.2.3.3).
 pub fn ids_are_apart()
     ensures begins { IdsBeginApart }
     ensures stays { IdsStayApart }
@@ -49,8 +47,8 @@ pub fn ids_are_apart()
     octets_go_made();
 }
 
-/// What names a slot: data for its IMSI and the end of its subscription, and from a station that is set up an INITIAL UE
-/// MESSAGE with its identity and a message with its id.
+/// Data and the end of a subscription name the slot of their IMSI; from a station that is set up, an INITIAL UE MESSAGE names that
+/// of its identity, and a message with an id that of the id.
 pub fn names_slot()
     ensures imsi { NamedByImsi }
     ensures identity { NamedByIdentity }
@@ -63,8 +61,8 @@ pub fn exchanges()
     ensures { Exchanges }
 {}
 
-/// Messages of which each owner's are those that its machine sends at an event, and that stand in the order of their owners,
-/// are one list alone; and the MME's reply to an event that it accepts is that list.
+/// The messages of all owners' machines at an event, in the order of owners, are a single list, which is the reply to an event that
+/// isn't refused.
 pub fn one_output()
     ensures reply { RepliesSo }
     ensures one { OneOutput }

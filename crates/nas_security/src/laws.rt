@@ -18,8 +18,7 @@ pub fn estimate_is_least()
         → (n : ℕ) → first_after last ≤ n → n < 2 ^ 24 → n % modulus ≡ bits → ⊥ }
 {}
 
-/// A message is accepted exactly where its header is allowed, its count is the estimate and its MAC
-/// is right.
+/// A message is accepted exactly if its header is allowed, its count is the estimate and its MAC is right.
 pub fn accepted_is_exact()
     ensures { (mac : Mac) (last : Option ℕ) (allowed : List SecurityHeader) (octets : List ℕ)
         (count : ℕ) (message : List ℕ)

@@ -3,14 +3,13 @@ mod run;
 
 use identity_slots::Provision;
 use mme_core::{Config, Mme};
-use mme_main::run_play;
 use mme_types::{AggregateBitRate, Apn, Network};
 use per_bits::Octets;
 use std::alloc::Global;
 use std::io;
 use std::io::{BufWriter, Read, Write};
 use std::process::Abort;
-use trace_run::{PlayFault, Player, Progress, Watched, play_lines};
+use trace_run::{PlayFault, Player, Progress, Watched, play_lines, run_play};
 use trace_words::TraceFault;
 
 const SETUP: &[u8] =

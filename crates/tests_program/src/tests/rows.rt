@@ -1,9 +1,8 @@
 //! Worked rows over memory, as `tests/rows` has them: a station's set-up, octets that are none, and both faults of provisioning.
 
 use crate::tests::{RESPONSE, SETUP, must};
-use mme_main::run_play;
 use std::alloc::Global;
-use trace_run::{PlayFault, Watched};
+use trace_run::{PlayFault, Watched, run_play};
 use trace_words::TraceFault;
 
 const EMPTY_OCTETS: &[u8] = b"mme 001 01 8001 01 internet 1000000000 1000000000\n\
