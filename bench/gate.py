@@ -1,5 +1,6 @@
 #!/usr/bin/env python3
-"""Runs the gate, or another command, and prints the processor time that each crate took in it: proof, tests, edits, guards.
+"""Runs the gate, or another command, and prints the processor time that each crate took in it (proof, tests, edits, guards), and each
+part of the gate that needs no proof.
 
     python3 bench/gate.py                                 runs .ci/run --anew
     taskset -c 0,1 python3 bench/gate.py                  the same on two processors
@@ -11,13 +12,16 @@ the command are looked at, so a figure may lack a second for each process. Linux
 import argparse
 import collections
 import os
+import re
 import subprocess
 import sys
 import time
 
 TOP = os.path.realpath(os.path.join(os.path.dirname(os.path.realpath(__file__)), ".."))
 TICKS = os.sysconf("SC_CLK_TCK")
-PARTS = ("proof", "tests", "edits", "guards")
+PARTS = ("proof", "tests", "edits", "guards", "run")
+# A part of the gate, as .ci/run names it.
+PART = re.compile(r"tests/\w+/(?:run|memory)")
 
 Process = collections.namedtuple("Process", "parent own waited words folder")
 
@@ -64,7 +68,10 @@ def chain(pid, seen):
 
 
 def told(process):
-    """Returns the crate and the part that a prover's process works on, if it is one."""
+    """Returns the crate and the part that a prover's process works on, or a part of the gate, if it is one of these."""
+    part = next(filter(PART.fullmatch, process.words), None)
+    if part:
+        return part, "run"
     if "--crate-name" not in process.words:
         return None
     crate = process.words[process.words.index("--crate-name") + 1]
@@ -74,12 +81,12 @@ def told(process):
 
 
 def sample(root, spent):
-    """Notes for each prover's topmost process below the root what it and all below it have taken so far."""
+    """Notes for each topmost process that is told of what it and all below it have taken so far."""
     seen = processes(root)
     sums = collections.Counter()
     for pid, process in seen.items():
-        provers = [it for it in chain(pid, seen) if told(seen[it])]
-        top = provers[-1] if provers else None
+        found = [it for it in chain(pid, seen) if told(seen[it])]
+        top = found[-1] if found else None
         if top is not None:
             sums[top] += process.own + process.waited
     for pid, seconds in sums.items():

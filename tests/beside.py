@@ -1,7 +1,8 @@
 #!/usr/bin/env python3
 """What runs beside the proofs of the gate, and begins with a crate once `rt ci` has proved it.
 
-    beside.py LOG CRATE WORD ..    becomes the command WORD .. once the `rt ci` that writes LOG has proved the crate, or has ended
+    beside.py LOG CRATE WORD ..    becomes the command WORD .. once the `rt ci` that writes LOG has proved the crate; where that ends
+                                   without it, its status is 1
 """
 import os
 import re
@@ -28,10 +29,14 @@ def proved_in(log):
                 time.sleep(BETWEEN_LOOKS)
 
 
+def wait_for(log, crate):
+    """Returns once the `rt ci` that writes this log has proved a crate, or has ended: whether it has proved it."""
+    return any(name == crate for name in proved_in(log))
+
+
 def main(log, crate, *words):
-    for name in proved_in(log):
-        if name == crate:
-            break
+    if not wait_for(log, crate):
+        sys.exit(1)
     os.execvp(words[0], words)
 
 

@@ -35,8 +35,12 @@ class Waiting(unittest.TestCase):
             self.assertEqual(running.communicate(timeout=30)[0], "begun\n")
 
     def test_an_end_without_it(self):
-        with self.begun("high", "sh", "-c", "echo begun; exit 3") as running:
+        with self.begun("high", "echo", "begun") as running:
             self.write("1 passed, 1 failed\n")
+            self.assertEqual((running.communicate(timeout=30)[0], running.returncode), ("", 1))
+
+    def test_its_own_status(self):
+        with self.begun("low", "sh", "-c", "echo begun; exit 3") as running:
             self.assertEqual((running.communicate(timeout=30)[0], running.returncode), ("begun\n", 3))
 
 

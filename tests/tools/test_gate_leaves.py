@@ -7,15 +7,19 @@ import sys
 
 from tests.tools import test_proving, tools
 
-# `rt ci` proves each crate, leaves its library and the program; with a file `fails-ci` one proof fails at the end.
+# `rt ci` takes away what earlier runs left, proves each crate, leaves its library and the program. With a file `late` it does what that
+# says before it ends; with a file `fails-ci` one proof fails at the end.
 TOOLCHAIN = """#!/bin/sh
 echo "$*" >>"%(room)s/calls"
+rm -rf crates/*/out
+echo "rt: emm_state proved"
 for name in low middle other mme_c mme; do
     mkdir -p crates/$name/out/rlib/$name.rlib
     echo "digests of $name" >crates/$name/out/rlib/$name.rlib/format
+    echo a program >crates/$name/out/$name
     echo "rt: $name proved"
 done
-echo a program >crates/mme/out/mme
+if [ -e "%(room)s/late" ]; then . "%(room)s/late"; fi
 if [ -e "%(room)s/fails-ci" ]; then
     echo "4 passed, 1 failed"
     exit 1
@@ -47,7 +51,8 @@ HEADER = "int soizkadur_one(void);\n"
 SOURCE = "int hidden(void) { return 1; } int soizkadur_one(void) { return hidden(); }\n"
 TAKEN = "mme: the gate passed on this text here: 3 crates are proved, and mme_c is compiled"
 EMPTY_ARCHIVE = b"!<arch>\n"
-# Waits until the library is compiled.
+# Waits until there is a record of the libraries that `rt ci` built, and until the library for C is compiled.
+BUILT = "until [ -e crates/mme_c/out/built.proved ]; do sleep 0.1; done\n"
 COMPILED = "until [ -e crates/mme_c/out/gate/libmme_c.a.made_of ]; do sleep 0.1; done\n"
 
 
@@ -90,7 +95,7 @@ class GateLeaves(test_proving.Clone):
         return done.returncode, done.stdout.splitlines()[-1]
 
     def passes(self):
-        self.assertEqual(self.gate(), (0, "20 passed, 0 failed"))
+        self.assertEqual(self.gate(), (0, "21 passed, 0 failed"))
 
     def is_left(self, processor=None):
         """Whether what the gate compiled would be taken."""
@@ -152,10 +157,11 @@ class GateLeaves(test_proving.Clone):
         """Nothing is taken where a proof or a test failed, or where the text or a library isn't that of the proofs in the end."""
         (self.room / "fails-ci").touch()
         self.assertEqual(self.gate(), (1, "4 passed, 1 failed"))
+        self.assertFalse((self.top / "crates" / "mme" / "out" / "mme.proved").exists(), "its laws may not hold")
         self.assertFalse(self.is_left())
         (self.room / "fails-ci").unlink()
-        for part, does, failed in (("library", "status=1", 1), ("tools", "status=1", 1), ("docs", "echo // >>crates/low/src/lib.rt", 0),
-                                   ("docs", "echo // >>crates/low/out/rlib/low.rlib/format", 0),
+        for part, does, failed in (("library", "status=1", 1), ("rows", "status=1", 1), ("docs", BUILT + "echo // >>crates/low/src/lib.rt", 0),
+                                   ("docs", BUILT + "echo // >>crates/low/out/rlib/low.rlib/format", 0),
                                    ("docs", COMPILED + "echo // >>crates/mme_c/out/gate/libmme_c.a", 0)):
             with self.subTest(part=part, does=does):
                 source = self.top / "crates" / "low" / "src" / "lib.rt"
@@ -170,11 +176,17 @@ class GateLeaves(test_proving.Clone):
         self.passes()
         self.assertTrue(self.is_left())
 
+    def test_program_is_tested_beside_what_is_left(self):
+        """What needs the program begins once that is proved, and not after all other proofs."""
+        (self.room / "late").write_text("until [ -e crates/mme/out/tested ]; do sleep 0.1; done\n")
+        (self.room / "tools").write_text("touch crates/mme/out/tested\n")
+        self.passes()
+
     def test_compiled_of_another_text(self):
         """What was compiled of another text than the gate's isn't taken, though the text is the gate's again in the end."""
         source = self.top / "crates" / "low" / "src" / "lib.rt"
         text = source.read_text()
-        (self.room / "library").write_text("until [ -e crates/mme/out/mme.proved ]; do sleep 0.1; done\necho // >>crates/low/src/lib.rt")
+        (self.room / "library").write_text(BUILT + "echo // >>crates/low/src/lib.rt")
         (self.room / "package").write_text(COMPILED + "echo '%s' >crates/low/src/lib.rt" % text.strip())
         self.passes()
         self.assertEqual(source.read_text(), text)

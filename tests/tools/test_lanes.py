@@ -1,4 +1,4 @@
-"""tools/program/lanes.py: the longest chain of crates comes first, by two processes a proof, and no more run than there are processors."""
+"""tools/program/lanes.py: the longest chains of crates come first, by two processes a proof, and no more run than there are processors."""
 import contextlib
 import os
 import threading
@@ -51,18 +51,25 @@ class Machine:
 class Sharing(unittest.TestCase):
     def test_the_chain(self):
         tasks = Machine(4).tasks()
-        behind = lanes.work_behind(tasks)
-        lines = {name: behind[name, "proof"] % lanes.OF_ITSELF for name in ("low", "mid", "side", "small")}
+        work = lanes.work_from(tasks)
+        lines = {name: work[name, "proof"] % lanes.OF_ITSELF for name in ("low", "mid", "side", "small")}
         self.assertEqual(lines, {"low": 300 % lanes.OF_ITSELF, "mid": 200, "side": 90, "small": 110})
-        self.assertEqual(behind["low", "proof"], 300 + 3 * lanes.OF_ITSELF)
-        self.assertEqual(lanes.chain_of(tasks, behind), {("low", "proof"), ("mid", "proof"), ("top", "proof")})
+        self.assertEqual(work["low", "proof"], 300 + 3 * lanes.OF_ITSELF)
+        self.assertEqual(lanes.chains_of(tasks), {("low", "proof"), ("mid", "proof"), ("top", "proof")})
 
     def test_many_small_crates(self):
         """Two crates that stand on one another take longer than one with a few lines more."""
         chain = {"low": ((), 100), "one": (("low",), 150), "first": (("low",), 50), "second": (("low", "first"), 50)}
         with unittest.mock.patch.dict(CRATES, chain, clear=True):
+            self.assertEqual(lanes.chains_of(Machine(4).tasks()), {(name, "proof") for name in ("low", "first", "second")})
+
+    def test_what_tests_wait_for(self):
+        """The chains are those to the program and to the library for C, however few lines they have, and what they stand on comes before
+        what has more lines after it."""
+        with unittest.mock.patch.dict(CRATES, {"mme_c": (("low",), 1), "mme": (("low", "small"), 1)}):
             tasks = Machine(4).tasks()
-            self.assertEqual(lanes.chain_of(tasks, lanes.work_behind(tasks)), {(name, "proof") for name in ("low", "first", "second")})
+            self.assertEqual(lanes.chains_of(tasks), {(name, "proof") for name in ("low", "mme_c", "mme")})
+            self.assertEqual([key[0] for key in lanes.Sharing(tasks, 4, MEMORY).left[:2]], ["low", "small"])
 
     def test_each_task_once_with_what_it_waits_for(self):
         machine = Machine(4)
@@ -76,6 +83,25 @@ class Sharing(unittest.TestCase):
         processes = machine.processes()
         self.assertTrue(all(processes[name, "proof"] >= lanes.OF_CHAIN for name in ("low", "mid", "top")), processes)
         self.assertEqual(processes["side", "proof"], 1)
+
+    def begun_beside(self, processes):
+        """What begins of two chains, and with how many processes, beside a proof that has this many."""
+        chains = {"side": ((), 90), "mme": ((), 50), "mme_c": ((), 40)}
+        with unittest.mock.patch.dict(CRATES, chains, clear=True):
+            sharing = lanes.Sharing(Machine(4).tasks(), 4, 64 * MEMORY)
+        sharing.left.remove(("side", "proof"))
+        sharing.running["side"] = ("side", "proof"), processes
+        begun = {}
+        for key, count in sharing.begun():
+            if count:
+                sharing.running[key] = key, count
+                begun[key[0]] = count
+        return begun
+
+    def test_two_chains(self):
+        """A proof of a chain waits for two processors, and begins with one while another of a chain runs."""
+        self.assertEqual([self.begun_beside(processes) for processes in range(5)],
+                         [{"mme": 2, "mme_c": 2}, {"mme": 2, "mme_c": 1}, {"mme": 2}, {}, {}])
 
     def test_no_more_than_processors(self):
         for processors in (4, 8):

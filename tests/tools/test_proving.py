@@ -218,10 +218,11 @@ class Proving(Clone):
                               capture_output=True, check=False, timeout=60)
 
     def gate_ends(self, before):
-        """The program is there, and its record is to be written, as the gate has it."""
+        """The program is there, and its record and the libraries' are to be written, as the gate has it."""
         self.program.parent.mkdir(exist_ok=True)
         self.program.write_text("a program\n")
         self.program.chmod(0o755)
+        self.of_record("built", given=before)
         return self.of_record("since", self.program, given=before)
 
     def test_record_of_the_gate(self):

@@ -1,42 +1,54 @@
-"""How `rt ci` shares the processors among what it has to do: its longest chain of crates first, each proof of it by two processes.
+"""How `rt ci` shares the processors among what it has to do: the longest chains of crates first, each proof of them by two processes.
 
-`rt` begins a proof of that chain by as many processes as no other proof waits for, which is mostly one: on four processors the chain
-then takes longer than all the work does. Here two processors are kept for it as long as any of it is left, and the others take what
-else can begin, the one with the most work behind it first. What has nothing to do, such as the tests of a crate without tests, takes
-no processor. On fewer processors, and where RT_JOBS says how many processes there are to be, it is as `rt` does it.
+`rt` begins a proof of such a chain by as many processes as no other proof waits for, which is mostly one: on four processors the chain
+then takes longer than all the work does. Here two processors are kept for the chains that end in the program and in the library for C,
+whose tests come last, as long as any of them is left; and the others take what else can begin, the one with the most work after it
+first. What has nothing to do, such as the tests of a crate without tests, takes no processor. On fewer processors, and where RT_JOBS
+says how many processes there are to be, it is as `rt` does it.
 """
 import concurrent.futures
 import functools
 import inspect
 import os
 
-# The processes of a proof of the chain, the most of any other, and the fewest processors that the chain is first on.
+# The processes of a proof of a chain, the most of any other, and the fewest processors that chains are first on.
 OF_CHAIN, MOST, FEWEST = 2, 4, 4
 # The share of what is free that tasks may take of memory, and what each further process of a proof takes of its memory.
 SHARE, OF_PROCESS = 0.85, 0.6
 PROOFS, FILLS = ("proof", "tests"), ("seed", "edits")
 # What a proof takes besides its lines, in lines: it reads the libraries below, and makes its own.
 OF_ITSELF = 300
+# The crates whose chains come first, and what takes its time once they are proved, in lines: compilers, and tests that wait for that.
+AFTER = {"mme": 13000, "mme_c": 10000}
 
 
-def work_behind(tasks):
+def work_of(tasks, key):
+    """Returns how much there is to do in a task."""
+    return tasks[key][1] + OF_ITSELF * (key[1] == "proof")
+
+
+def work_from(tasks):
     """Returns for each task how much there is to do from it on, along the longest way; a task comes after those that it waits for."""
-    behind = dict.fromkeys(tasks, 0)
+    left = {key: AFTER.get(key[0], 0) * (key[1] == "proof") for key in tasks}
     for key in reversed([*tasks]):
-        waits, work, *_ = tasks[key]
-        behind[key] += work + OF_ITSELF * (key[1] == "proof")
-        for it in waits:
-            behind[it] = max(behind[it], behind[key])
-    return behind
+        left[key] += work_of(tasks, key)
+        for it in tasks[key][0]:
+            left[it] = max(left[it], left[key])
+    return left
 
 
-def chain_of(tasks, behind):
-    """Returns the longest chain of proofs."""
-    proofs = [it for it in tasks if it[1] == "proof"]
-    chain = [max(proofs, key=behind.get)]
-    while waiting := [it for it in proofs if chain[-1] in tasks[it][0]]:
-        chain.append(max(waiting, key=behind.get))
-    return set(chain)
+def chains_of(tasks):
+    """Returns the proofs of the longest chain to each of those crates, or of the longest of all where there is none of them."""
+    done = {}
+    for key in tasks:
+        done[key] = work_of(tasks, key) + max((done[it] for it in tasks[key][0]), default=0)
+    proofs = [key for key in tasks if key[1] == "proof"]
+    chains = set()
+    for key in [key for key in proofs if key[0] in AFTER] or [max(proofs, key=done.get)]:
+        while key:
+            chains.add(key)
+            key = max(tasks[key][0], key=done.get, default=None)
+    return chains
 
 
 class Sharing:
@@ -44,10 +56,10 @@ class Sharing:
     memory, and a call with what was given and how many processes it may use."""
 
     def __init__(self, tasks, processors, memory):
-        behind = work_behind(tasks)
+        work = work_from(tasks)
         self.tasks, self.processors, self.memory = tasks, processors, memory
-        self.chain = chain_of(tasks, behind)
-        self.left = sorted(tasks, key=lambda it: (it[1] in FILLS, -behind[it]))
+        self.chain = chains_of(tasks)
+        self.left = sorted(tasks, key=lambda it: (it[1] in FILLS, -work[it]))
         self.running, self.given = {}, {}
 
     def ready(self):
@@ -61,10 +73,13 @@ class Sharing:
         """The processors that nothing runs on."""
         return self.processors - sum(processes for _, processes in self.running.values())
 
+    def is_under_way(self):
+        """Whether a proof of a chain runs."""
+        return any(key in self.chain for key, _ in self.running.values())
+
     def kept_free(self):
-        """The processors that are kept for the chain."""
-        under_way = any(key in self.chain for key, _ in self.running.values())
-        return 0 if under_way or not self.chain.intersection(self.left) else OF_CHAIN
+        """The processors that are kept for the chains."""
+        return 0 if self.is_under_way() or not self.chain.intersection(self.left) else OF_CHAIN
 
     def fits(self, key, processes):
         """Whether there is memory for a task beside those that run; where none runs, there is for one process."""
@@ -75,10 +90,12 @@ class Sharing:
         return self.tasks[key][2] * (1 + OF_PROCESS * (processes - 1))
 
     def processes_of(self, key, others):
-        """How many processes a task that is ready begins with, where so many other proofs are; 0 where it waits."""
+        """How many processes a task that is ready begins with, beside this many other proofs; 0 where it waits. A proof of a chain
+        waits for its processors, unless another of a chain runs."""
         idle = self.idle() if key in self.chain else self.idle() - self.kept_free()
         if key in self.chain:
-            wanted = max(OF_CHAIN, min(MOST, idle // (1 + others)))
+            fewest = max(1, min(OF_CHAIN, idle)) if self.is_under_way() else OF_CHAIN
+            wanted = max(fewest, min(MOST, idle // (1 + others)))
         else:
             wanted = max(1, min(MOST, idle // (1 + others))) if key[1] in PROOFS else 1
         if idle < wanted:
@@ -115,7 +132,7 @@ def in_lanes(rt, tasks):
 
 
 def chain_first(rt):
-    """`in_lanes` of `rt`, by which the longest chain comes first; as it is where it has another form than the one known here."""
+    """`in_lanes` of `rt`, by which the longest chains come first; as it is where it has another form than the one known here."""
     own = rt.in_lanes
     if list(inspect.signature(own).parameters) != ["tasks"] or not {"processors", "free", "ending"} <= set(vars(rt)):
         return own

@@ -2,9 +2,9 @@
 """What the program was made of: a record of digests beside it, and what has changed since.
 
     record.py now             prints the digests of text and toolchain, to be given back once they are proved
-    record.py since PROGRAM   writes the record of a program that was made by then, and of the crates' libraries that stand built
-                              for the library for C; standard input has the digests of before
-    record.py passed          writes the record of what the gate compiled of the library for C; standard input has the same digests
+    record.py since PROGRAM   writes the record of a program that was made by then; standard input has the digests of before
+    record.py built           writes the record of the crates' libraries that stand built for the library for C; likewise
+    record.py passed          writes the record of what the gate compiled of the library for C; likewise
 
 The record (PROGRAM.proved, JSON) has the SHA-256 of the program, of each crate's text and of the toolchain. It is written where the
 text was the same before the proofs and after the build, so whoever finds all of them unchanged has the program that was proved.
@@ -275,7 +275,7 @@ def main(words):
     if words == ["now"]:
         json.dump(now(), sys.stdout)
         return 0
-    if words != ["passed"] and (words[:1] != ["since"] or len(words) != 2):
+    if words not in (["built"], ["passed"]) and (words[:1] != ["since"] or len(words) != 2):
         print(__doc__.strip(), file=sys.stderr)
         return 2
     before = json.load(sys.stdin)
@@ -285,8 +285,10 @@ def main(words):
     if (before["crates"], before["library"]) != (digests_of_crates(), digests_of_crates(LIBRARY)):
         print("record.py: the crates changed while they were proved: no record is written", file=sys.stderr)
         return 1
-    write(pathlib.Path(words[1]), before["crates"], before["toolchain"])
-    write_built(before["library"], before["toolchain"])
+    if words == ["built"]:
+        write_built(before["library"], before["toolchain"])
+    else:
+        write(pathlib.Path(words[1]), before["crates"], before["toolchain"])
     return 0
 
 

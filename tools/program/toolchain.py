@@ -9,7 +9,7 @@ way. Here the toolchain's own code answers each question once: `below` of a crat
 made and doesn't change, and within one sum the text of each crate once. `rt ci` has a program compiled by LLVM and then by the
 toolchain's own compiler; here it is compiled by both at once. Of a static library `rt ci` keeps nothing; here what its check made
 stays beside a sum of the crate's text, so that the library can be compiled of it without being proved again. And `rt ci` begins with
-the longest chain of crates (tools/program/lanes.py). Every answer is the one that `rt` gives; but `rt try` has the prover look
+the chains of crates to the program and to the library for C (tools/program/lanes.py). Every answer is the one that `rt` gives; but `rt try` has the prover look
 beside it for names that a proof refuses, at the price of a build, and that hint isn't given here.
 
 What proves is started with huge_pages.c, where there is a C compiler for it and the system gives huge pages to those that ask: the
