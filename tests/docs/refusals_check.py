@@ -32,7 +32,7 @@ STAYING = (r"(?:OnErr|IfErr) result.*\.new", r"\w+\.new[.\w]* ≡ .*\.old(?!.*\b
 SAID_OTHERWISE = {
     "Station::act": ["err", "station"], "play_script_line": ["printed", "err"],
     "Watched::read": ["bytes", "failed", "ended", "calls"], "Watched::write": ["bytes", "failed", "ended", "calls"],
-    "Watched::flush": ["bytes", "failed", "ended", "calls"], "play_mme": ["the one"], "play_sub": ["the one"], "play_vec": ["the one"],
+    "Watched::flush": ["bytes", "failed", "ended", "calls"], "play_mme": ["printed"], "play_sub": ["printed"], "play_vec": ["printed"],
     "print_show": ["unknown", "err"], "play_show": ["unknown", "err", "stops"], "play_lines": ["played"], "PlaysLines::play_line": ["played"],
     **{"Session::" + call: ["the one"]
        for call in ("play", "begin", "add", "give", "start", "add_live", "give_live", "up", "down", "hear", "data_waits", "cancel",

@@ -32,7 +32,7 @@ pub fn idle_phones_are_forgotten()
 {}
 
 /// The same holds over every list of items in which the phone says nothing, no data comes for it and its subscription stays,
-/// whatever else happens. A phone that asks again restarts its procedure's countdown, and so does data that waits for it.
+/// whatever else happens.
 pub fn silent_phones_end()
     ensures procedure { SilentEnds }
     ensures forgotten { SilentIsForgotten }

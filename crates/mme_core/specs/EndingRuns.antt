@@ -1,11 +1,10 @@
 -- What comes to an end of a subscriber over a list of items, where the phone is silent and nobody asks for it.
-use Rattle.std.specs.Prelude.{◌≡◌, ◌+◌, ◌≤◌, List, ◌++◌, None}
+use Rattle.std.specs.Prelude.{◌≡◌, ◌≤◌, List, ◌++◌, None}
 use Rattle.mme_types.specs.Events.{Item}
 use Rattle.emm_state.specs.declared.solo.Phase.TheVariants.{Deregistered, Registered}
-use Rattle.emm_state.specs.Timers.{reachable_ticks}
 use Rattle.emm_machine.specs.SubscriberView.{SubscriberView}
 use Rattle.laws_subscriber.specs.Clocked.{IsClocked}
-use Rattle.laws_subscriber.specs.Ends.{IsSettled, longest_in}
+use Rattle.laws_subscriber.specs.Ends.{IsSettled, longest_in, longest_registration}
 use Rattle.laws_subscriber.specs.Silent.{AreSilent, ticks_among}
 use Rattle.mme_core.specs.GuardedRuns.{state_after}
 
@@ -18,4 +17,4 @@ pub record IsEndingRun (w : SubscriberView) (items : List Item) : Type 0 where
   -- and a phone that isn't registered and connected is deregistered in the end
   pub forgotten : (seen silent unseen : List Item) → items ≡ seen ++ (silent ++ unseen) → AreSilent silent
       → ((state_after w seen).phase ≡ Registered → (state_after w seen).connection ≡ None)
-      → 30 + reachable_ticks ≤ ticks_among silent → (state_after w (seen ++ silent)).phase ≡ Deregistered
+      → longest_registration ≤ ticks_among silent → (state_after w (seen ++ silent)).phase ≡ Deregistered

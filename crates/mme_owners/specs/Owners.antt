@@ -1,5 +1,6 @@
 -- What a caller sees of the owners, and what always holds of them.
 use Rattle.std.specs.Prelude.{◌≡◌, ℕ, ◌^◌, ◌<◌, ◌≤◌, List, [], ◌∷◌, ◌++◌, length, Option, Some, None}
+use Rattle.nas_elements.specs.Timers.{mobile_reachable_ticks}
 use Rattle.emm_machine.specs.SubscriberView.{SubscriberView}
 use Rattle.emm_machine.specs.Ticks.{countdowns}
 use Rattle.stranger_machine.specs.declared.table.Known.{Known}
@@ -67,10 +68,10 @@ abbrev pub all_retimed : List SteppedView → List Countdown → List Countdown
 all_retimed [] cs = cs
 all_retimed (x ∷ xs) cs = all_retimed xs (both_retimed x.slot (countdowns x.solo) cs)
 
--- T3470 may run of a stranger with an id from 2^31 on, from 1 to 3480 ticks
+-- T3470 may run of a stranger with an id from 2^31 on, from 1 tick to those of the longest timer
 abbrev pub IsStart : ℕ → Option ℕ → Type 0
 IsStart id None = Unit {0}
-IsStart id (Some left) = (2 ^ 31 ≤ id) × (1 ≤ left) × (left ≤ 3480)
+IsStart id (Some left) = (2 ^ 31 ≤ id) × (1 ≤ left) × (left ≤ mobile_reachable_ticks)
 
 -- of a stranger that waits from now on T3470 may run
 abbrev pub IsWaitAfter : ℕ → After → Type 0

@@ -68,7 +68,7 @@ countdowns_at slot ws = option_map (λ w. countdowns w.solo) (slice_get ws slot)
 abbrev pub due_slots : List SubscriberView → List ℕ
 due_slots ws = due_from 0 (all_countdowns ws)
 
--- each countdown that runs has from 1 to 3480 ticks left
+-- each countdown that runs has from 1 tick left to those of the longest timer
 abbrev pub IsCounting : Solo → Type 0
 IsCounting s = AreInRange (countdowns s)
 

@@ -158,7 +158,7 @@ impl Owners {
         self.records.give(alloc, slot, vector)
     }
 
-    /// How many subscribers there are. Each countdown of theirs that runs has from 1 to 3480 ticks left.
+    /// How many subscribers there are. Each countdown of theirs that runs has from 1 to MOBILE_REACHABLE_TICKS left.
     pub fn len(&self) -> usize
         ensures value { result ≡ length self.now.subscribers }
         ensures few { length self.now.subscribers ≤ slots }

@@ -100,7 +100,7 @@ impl Records {
         self.subscribers.push(subscriber, connections)
     }
 
-    /// How many subscribers there are. Each countdown of theirs that runs has from 1 to 3480 ticks left.
+    /// How many subscribers there are. Each countdown of theirs that runs has from 1 to MOBILE_REACHABLE_TICKS left.
     pub(crate) fn len(&self) -> usize
         ensures value { result ≡ length self.now.subscribers }
         ensures few { length self.now.subscribers ≤ slots }

@@ -146,7 +146,7 @@ impl Subscribers {
         Ok(())
     }
 
-    /// How many there are. Each countdown that runs has from 1 to 3480 ticks left.
+    /// How many there are. Each countdown that runs has from 1 to MOBILE_REACHABLE_TICKS left.
     pub fn len(&self) -> usize
         ensures value { result ≡ length self.now.subscribers }
         ensures few { length self.now.subscribers ≤ slots }

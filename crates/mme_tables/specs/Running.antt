@@ -1,5 +1,6 @@
 -- Countdowns of slots: two of each, of a procedure and of an idle phone, as what each slot has left and as the queue has them.
 use Rattle.std.specs.Prelude.{◌≡◌, ℕ, ◌+◌, ◌-◌, ◌≤◌, nat_le, ◌==◌, ◌||◌, Bool, false, List, [], ◌∷◌, Option, Some, None, if◌then◌else◌}
+use Rattle.nas_elements.specs.Timers.{mobile_reachable_ticks}
 use Rattle.mme_tables.specs.Whereabouts.{slots_where}
 use Rattle.timer_queue.specs.declared.timer.Kind.{Kind}
 use Rattle.timer_queue.specs.declared.timer.Kind.TheVariants.{Procedure, Reachable}
@@ -45,10 +46,10 @@ abbrev pub with_part : Kind → Option ℕ → Option ℕ × Option ℕ → Opti
 with_part Procedure o p = (o, p.1)
 with_part Reachable o p = (p.0, o)
 
--- a countdown that runs has from 1 to 3480 ticks left, and so has each of two
+-- a countdown that runs has from 1 tick left to those of the longest timer, and so has each of two
 abbrev pub IsInRange : Option ℕ → Type 0
 IsInRange None = Unit {0}
-IsInRange (Some left) = (1 ≤ left) × (left ≤ 3480)
+IsInRange (Some left) = (1 ≤ left) × (left ≤ mobile_reachable_ticks)
 
 abbrev pub AreInRange : Option ℕ × Option ℕ → Type 0
 AreInRange p = IsInRange p.0 × IsInRange p.1

@@ -1,6 +1,7 @@
 -- T3470 of the strangers that wait for an identity (TS 24.301 clause 5.4.4), as the queue of deadlines has it.
 use Rattle.std.specs.Prelude.{ℕ, ◌^◌, ◌<◌, ◌≤◌, if◌then◌else◌, List, [], ◌∷◌, Option, Some, None}
 use Rattle.identity_slots.specs.Ids.{number_in, station_in}
+use Rattle.nas_elements.specs.Timers.{mobile_reachable_ticks}
 use Rattle.sorted_list.specs.Ordered.{Every}
 use Rattle.stranger_machine.specs.declared.state.Stranger.{Stranger}
 use Rattle.stranger_machine.specs.declared.state.Stranger.TheVariants.{Waiting, Held}
@@ -30,10 +31,10 @@ wait_if (Some s) = wait_of s
 abbrev pub wait_at : ℕ → List Known → Option ℕ
 wait_at id ks = wait_if (stranger_at id ks)
 
--- where T3470 runs, the id is one of a stranger, and from 1 to 3480 ticks are left
+-- where T3470 runs, the id is one of a stranger, and from 1 tick is left to those of the longest timer
 abbrev pub IsWait : ℕ → Option ℕ → Type 0
 IsWait id None = Unit {0}
-IsWait id (Some left) = (2 ^ 31 ≤ id) × (id < 2 ^ 32) × (1 ≤ left) × (left ≤ 3480)
+IsWait id (Some left) = (2 ^ 31 ≤ id) × (id < 2 ^ 32) × (1 ≤ left) × (left ≤ mobile_reachable_ticks)
 
 abbrev pub AreWaits : List Known → Type 0
 AreWaits ks = Every (λ k. IsWait k.id (wait_of k.stranger)) ks

@@ -1,11 +1,11 @@
 //! CHOICEs (X.691 clause 23).
 
-ghost use Rattle.std.specs.Prelude.{◌≡◌, ◌++◌, ◌∷◌, ◌≤◌, [], false, IfOk};
+ghost use Rattle.std.specs.Prelude.{◌≡◌, ◌≤◌, IfOk};
 ghost use Rattle.per_streams.specs.declared.fault.PerFault.TheVariants.{Alternative};
 ghost use Rattle.per_streams.specs.Bits.{Answers};
 ghost use Rattle.per_bits.specs.Reading.{closed_at};
 ghost use Rattle.per_streams.specs.Reading.{number_at};
-ghost use Rattle.per_streams.specs.Writing.{write_number, Wrote};
+ghost use Rattle.per_streams.specs.Writing.{Wrote};
 ghost use Rattle.per_bits.specs.Sequences.{write_alternative};
 
 use crate::element::Element;
@@ -26,14 +26,6 @@ pub fn take_choice(last: u64, reader: &mut BitReader) -> Result<u64, PerFault>
     offset_of(last, reader)
 }
 
-/// Writes the index of an alternative, the last of which has index `last`; a greater one is Range.
-#[inline(always)]
-pub fn put_choice(last: u64, index: u64, writer: &mut BitWriter) -> Result<(), PerError>
-    ensures { Wrote result writer.new (write_number 0 last index (writer.old ++ false ∷ [])) }
-{
-    put_root(last, index, writer)
-}
-
 /// Writes an alternative of a CHOICE, the last of which has index `last`: its index, and its value.
 pub fn write_choice<'a, T: Element<'a>>(
     last: u64,
@@ -44,6 +36,6 @@ pub fn write_choice<'a, T: Element<'a>>(
 ) -> Result<(), PerError>
     ensures { Wrote result writer.new (write_alternative last index T.format (T.view value.now) writer.old) }
 {
-    put_choice(last, index, writer)?;
+    put_root(last, index, writer)?;
     value.write(alloc, writer)
 }

@@ -19,7 +19,7 @@ mod whole;
 mod wrapped;
 
 pub use bit_string::BitString;
-pub use choice::{put_choice, take_choice, write_choice};
+pub use choice::{take_choice, write_choice};
 pub use element::Element;
 pub use enumerated::take_name;
 pub use field::BitField;
@@ -31,7 +31,9 @@ pub use open::{
     count_after, put_length, read_complete, read_open, take_length, take_open, take_small_number,
     write_complete, write_counted, write_open,
 };
-pub use per_streams::{BitReader, BitWriter, PerError, PerFault, Whole, offset_of, put_number};
+pub use per_streams::{
+    BitReader, BitWriter, PerError, PerFault, Whole, offset_of, put_number, put_root,
+};
 pub use sequence::{
     put_flags, put_three_flags, read_pair, read_three, read_two, skip_later, take_flags,
     take_three_flags,

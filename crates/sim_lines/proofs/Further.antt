@@ -14,13 +14,14 @@ use Rattle.trace_progress.specs.declared.fault.PlayFault.TheVariants.{Trace, Rea
 use Rattle.trace_progress.specs.declared.progress.Progress.{Progress}
 use Rattle.sim_printing.specs.Printed.{AddsComments, AfterEvent, IsBegun, PrintsLine, PrintsOn, PrintsScriptLine}
 use Rattle.sim_printing.specs.Stopped.{IsFurther}
-use Rattle.sim_printing.specs.StopLaws.{IsFurther-event, IsFurther-same, IsFurther-stopped, IsFurther-then, IsPrefix-cut, IsPrefix-same, IsPrefix-then}
+use Rattle.sim_printing.specs.StopLaws.{IsFurther-event, IsFurther-same, IsFurther-stopped, IsFurther-then}
+use Rattle.trace_progress.specs.FrontLaws.{IsPrefix-all, IsPrefix-cut, IsPrefix-then}
 use Rattle.sim_lines.specs.Further.{GoesFurther}
 
 -- ---- calls
 
 pub stays : {progress : Progress} {out : List ℕ} → GoesFurther progress out progress out
-stays {progress} {out} = record { trace = IsFurther-same progress; output = IsPrefix-same out }
+stays {progress} {out} = record { trace = IsFurther-same progress; output = IsPrefix-all out }
 
 -- what was to be printed was refused
 pub unprinted : {progress : Progress} {before after : List ℕ} → after ≡ before → GoesFurther progress before progress after

@@ -1,3 +1,4 @@
 pub mod Printing
 pub mod Faults
 pub mod Further
+pub mod Playing

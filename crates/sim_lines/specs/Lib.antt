@@ -1,3 +1,5 @@
+pub mod Turns
+pub mod Plays
 pub mod Events
 pub mod Faults
 pub mod Further

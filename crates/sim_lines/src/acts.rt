@@ -1,11 +1,13 @@
 //! What stations and phones do.
 
-ghost use Rattle.std.specs.Prelude.{◌≡◌, ◌≢◌, [], true, OnOk, IfErr};
+ghost use Rattle.std.specs.Prelude.{◌≡◌, ◌≢◌, [], true, IfOk, OnOk, IfErr};
 ghost use Rattle.std.specs.Result.{result_err};
 ghost use Rattle.trace_progress.specs.Effects.{running};
 ghost use Rattle.sim_printing.specs.Printed.{IsBegun, PrintsOn, PrintsScriptLine};
 ghost use Rattle.sim_lines.specs.Faults.{AnswersFault};
 ghost use Rattle.sim_lines.specs.Further.{GoesFurther};
+ghost use Rattle.sim_lines.specs.Plays.{PlaysAct, PlaysActed, PlaysUp, set_up_sending};
+ghost use Rattle.sim_lines.specs.Turns.{scene_of, sending_as};
 
 use crate::script::Script;
 use crate::turns::{deliver, play_message, play_queue};
@@ -27,6 +29,7 @@ pub(crate) fn play_act_line(
     out: &mut Vec<u8>,
 ) -> Result<(), PlayFault>
     ensures printed { PrintsScriptLine number [] script.old.progress out.old.items result script.new.progress out.new.items }
+    ensures plays { OnOk result (PlaysAct act (scene_of script.old out.old.items) (scene_of script.new out.new.items)) }
     ensures fault { AnswersFault (result_err (running script.old.progress)) result }
     ensures acted { OnOk result (script.new.acted ≡ true) }
     ensures err { IfErr result (λ fault. fault ≢ PlayFault.NoMemory → script.new ≡ script.old) }
@@ -52,6 +55,7 @@ pub(crate) fn play_act(
 ) -> Result<(), AllocError>
     requires { IsBegun script.old.progress }
     ensures printed { OnOk result (PrintsOn script.old.progress out.old.items script.new.progress out.new.items []) }
+    ensures plays { OnOk result (PlaysAct act (scene_of script.old out.old.items) (scene_of script.new out.new.items)) }
     ensures goes { GoesFurther script.old.progress out.old.items script.new.progress out.new.items }
 {
     match act {
@@ -83,6 +87,7 @@ fn play_acted(
 ) -> Result<(), AllocError>
     requires { IsBegun script.old.progress }
     ensures printed { OnOk result (PrintsOn script.old.progress out.old.items script.new.progress out.new.items []) }
+    ensures plays { OnOk result (PlaysActed acted (scene_of script.old out.old.items) (scene_of script.new out.new.items)) }
     ensures goes { GoesFurther script.old.progress out.old.items script.new.progress out.new.items }
 {
     match acted {
@@ -107,6 +112,7 @@ fn play_connection(
 ) -> Result<(), AllocError>
     requires { IsBegun script.old.progress }
     ensures printed { OnOk result (PrintsOn script.old.progress out.old.items script.new.progress out.new.items []) }
+    ensures plays { OnOk result (PlaysUp station (scene_of script.old out.old.items) (scene_of script.new out.new.items)) }
     ensures goes { GoesFurther script.old.progress out.old.items script.new.progress out.new.items }
 {
     if !script.crowd.has_station(station) {
@@ -129,6 +135,8 @@ fn play_set_up(
 ) -> Result<Option<Outs>, AllocError>
     requires { IsBegun script.old.progress }
     ensures printed { OnOk result (PrintsOn script.old.progress out.old.items script.new.progress out.new.items []) }
+    ensures sends { IfOk result (λ sent.
+        sending_as sent (scene_of script.new out.new.items) ≡ set_up_sending station (scene_of script.old out.old.items)) }
     ensures goes { GoesFurther script.old.progress out.old.items script.new.progress out.new.items }
 {
     match script.crowd.set_up(station)? {

@@ -7,6 +7,8 @@ ghost use Rattle.sim_printing.specs.Printed.{IsBegun, PrintsOn, PrintsScriptLine
 ghost use Rattle.sim_lines.specs.Events.{IsEventLine};
 ghost use Rattle.sim_lines.specs.Faults.{AnswersFault, fault_of_line, is_for_mme};
 ghost use Rattle.sim_lines.specs.Further.{GoesFurther};
+ghost use Rattle.sim_lines.specs.Plays.{PlaysLine, PlaysLoss, PlaysTicks};
+ghost use Rattle.sim_lines.specs.Turns.{scene_of};
 
 use crate::acts::play_act;
 use crate::script::Script;
@@ -34,6 +36,7 @@ pub(crate) fn play_trace_line(
     requires { ReadsAs line text.now }
     ensures printed { PrintsScriptLine number
         (kept_line line) script.old.progress out.old.items result script.new.progress out.new.items }
+    ensures plays { OnOk result (PlaysLine line text.now (scene_of script.old out.old.items) (scene_of script.new out.new.items)) }
     ensures fault { AnswersFault (fault_of_line script.old.acted script.old.progress line) result }
     ensures acted { OnOk result (script.new.acted ≡ (is_for_mme line || script.old.acted)) }
     ensures err { IfErr result (λ fault. fault ≢ PlayFault.NoMemory → script.new ≡ script.old) }
@@ -66,6 +69,8 @@ fn provide_network(
     requires { ReadsAs (Mme network) text.now }
     ensures printed { PrintsScriptLine number
         (kept_line (Mme network)) script.old.progress out.old.items result script.new.progress out.new.items }
+    ensures plays { OnOk result
+        (PlaysLine (Mme network) text.now (scene_of script.old out.old.items) (scene_of script.new out.new.items)) }
     ensures fault { AnswersFault (fault_of_line script.old.acted script.old.progress (Mme network)) result }
     ensures acted { OnOk result (script.new.acted ≡ script.old.acted) }
     ensures err { IfErr result (λ fault. fault ≢ PlayFault.NoMemory → script.new ≡ script.old) }
@@ -92,6 +97,8 @@ fn provide_phone(
     requires { ReadsAs (Sub profile) text.now }
     ensures printed { PrintsScriptLine number
         (kept_line (Sub profile)) script.old.progress out.old.items result script.new.progress out.new.items }
+    ensures plays { OnOk result
+        (PlaysLine (Sub profile) text.now (scene_of script.old out.old.items) (scene_of script.new out.new.items)) }
     ensures fault { AnswersFault (fault_of_line script.old.acted script.old.progress (Sub profile)) result }
     ensures acted { OnOk result (script.new.acted ≡ script.old.acted) }
     ensures err { IfErr result (λ fault. fault ≢ PlayFault.NoMemory → script.new ≡ script.old) }
@@ -125,6 +132,8 @@ fn provide_vector(
     requires { ReadsAs (Vec imsi vector) text.now }
     ensures printed { PrintsScriptLine number
         (kept_line (Vec imsi vector)) script.old.progress out.old.items result script.new.progress out.new.items }
+    ensures plays { OnOk result
+        (PlaysLine (Vec imsi vector) text.now (scene_of script.old out.old.items) (scene_of script.new out.new.items)) }
     ensures fault { AnswersFault (fault_of_line script.old.acted script.old.progress (Vec imsi vector)) result }
     ensures acted { OnOk result (script.new.acted ≡ script.old.acted) }
     ensures err { IfErr result (λ fault. fault ≢ PlayFault.NoMemory → script.new ≡ script.old) }
@@ -162,6 +171,8 @@ fn answer_question(
     requires { ReadsAs (Show imsi) text.now }
     ensures printed { PrintsScriptLine number
         (kept_line (Show imsi)) script.old.progress out.old.items result script.new.progress out.new.items }
+    ensures plays { OnOk result
+        (PlaysLine (Show imsi) text.now (scene_of script.old out.old.items) (scene_of script.new out.new.items)) }
     ensures fault { AnswersFault (fault_of_line script.old.acted script.old.progress (Show imsi)) result }
     ensures acted { OnOk result (script.new.acted ≡ true) }
     ensures err { IfErr result (λ fault. fault ≢ PlayFault.NoMemory → script.new ≡ script.old) }
@@ -192,6 +203,7 @@ fn play_event_line(
     requires says { ReadsAs line text.now }
     ensures printed { PrintsScriptLine number
         (kept_line line) script.old.progress out.old.items result script.new.progress out.new.items }
+    ensures plays { OnOk result (PlaysLine line text.now (scene_of script.old out.old.items) (scene_of script.new out.new.items)) }
     ensures fault { AnswersFault (fault_of_line script.old.acted script.old.progress line) result }
     ensures acted { OnOk result (script.new.acted ≡ (is_for_mme line || script.old.acted)) }
     ensures err { IfErr result (λ fault. fault ≢ PlayFault.NoMemory → script.new ≡ script.old) }
@@ -220,6 +232,7 @@ fn play_event(
     requires event { IsEventLine line }
     requires says { ReadsAs line text.now }
     ensures printed { OnOk result (PrintsOn script.old.progress out.old.items script.new.progress out.new.items (kept_line line)) }
+    ensures plays { OnOk result (PlaysLine line text.now (scene_of script.old out.old.items) (scene_of script.new out.new.items)) }
     ensures goes { GoesFurther script.old.progress out.old.items script.new.progress out.new.items }
 {
     match line {
@@ -246,6 +259,7 @@ fn play_loss(
 ) -> Result<(), AllocError>
     requires { IsBegun script.old.progress }
     ensures printed { OnOk result (PrintsOn script.old.progress out.old.items script.new.progress out.new.items []) }
+    ensures plays { OnOk result (PlaysLoss station (scene_of script.old out.old.items) (scene_of script.new out.new.items)) }
     ensures goes { GoesFurther script.old.progress out.old.items script.new.progress out.new.items }
 {
     let sent = play_lost(alloc, &mut script.progress, station, out)?;
@@ -262,6 +276,7 @@ fn play_ticks(
 ) -> Result<(), AllocError>
     requires { IsBegun script.old.progress }
     ensures printed { OnOk result (PrintsOn script.old.progress out.old.items script.new.progress out.new.items []) }
+    ensures plays { OnOk result (PlaysTicks count (scene_of script.old out.old.items) (scene_of script.new out.new.items)) }
     ensures goes { GoesFurther script.old.progress out.old.items script.new.progress out.new.items }
 {
     for _tick in 0..count {
@@ -286,6 +301,8 @@ fn play_waiting(
     requires says { ReadsAs (Data imsi) text.now }
     ensures printed { OnOk result
         (PrintsOn script.old.progress out.old.items script.new.progress out.new.items (kept_line (Data imsi))) }
+    ensures plays { OnOk result
+        (PlaysLine (Data imsi) text.now (scene_of script.old out.old.items) (scene_of script.new out.new.items)) }
     ensures goes { GoesFurther script.old.progress out.old.items script.new.progress out.new.items }
 {
     let sent = play_data(alloc, &mut script.progress, imsi, text, out)?;
@@ -304,6 +321,8 @@ fn play_withdrawal(
     requires says { ReadsAs (Cancel imsi) text.now }
     ensures printed { OnOk result
         (PrintsOn script.old.progress out.old.items script.new.progress out.new.items (kept_line (Cancel imsi))) }
+    ensures plays { OnOk result
+        (PlaysLine (Cancel imsi) text.now (scene_of script.old out.old.items) (scene_of script.new out.new.items)) }
     ensures goes { GoesFurther script.old.progress out.old.items script.new.progress out.new.items }
 {
     let sent = play_cancel(alloc, &mut script.progress, imsi, text, out)?;

@@ -5,7 +5,10 @@ ghost use Rattle.sim_words.specs.Kept.{kept_in};
 ghost use Rattle.trace_progress.specs.Text.{breaks};
 ghost use Rattle.trace_progress.specs.declared.progress.Progress.TheVariants.{Nothing};
 ghost use Rattle.sim_printing.specs.Printed.{PrintsScriptLine};
+ghost use Rattle.sim_crowd.specs.Crowds.{empty_crowd};
 ghost use Rattle.sim_lines.specs.Faults.{AnswersFault, ends_provisioning, script_fault};
+ghost use Rattle.sim_lines.specs.Plays.{PlaysText};
+ghost use Rattle.sim_lines.specs.Turns.{scene_of};
 
 use crate::acts::play_act_line;
 use crate::lines::play_trace_line;
@@ -29,6 +32,7 @@ impl Script {
     /// A script of which no line has come.
     pub fn new(alloc: Global) -> Script
         ensures progress { result.progress ≡ Nothing }
+        ensures crowd { result.crowd ≡ empty_crowd }
         ensures acted { result.acted ≡ false }
     {
         Script {
@@ -55,6 +59,7 @@ pub fn play_script_line(
     requires { breaks text.now ≡ 0 }
     ensures printed { PrintsScriptLine number
         (kept_in (text.now ∷ [])) script.old.progress out.old.items result script.new.progress out.new.items }
+    ensures plays { OnOk result (PlaysText text.now (scene_of script.old out.old.items) (scene_of script.new out.new.items)) }
     ensures fault { AnswersFault (script_fault script.old.acted script.old.progress text.now) result }
     ensures acted { OnOk result (script.new.acted ≡ (ends_provisioning text.now || script.old.acted)) }
     ensures err { IfErr result (λ fault. fault ≢ PlayFault.NoMemory → script.new ≡ script.old) }

@@ -1,12 +1,14 @@
 //! What stations and phones send, and what they answer when the MME's messages reach them.
 
-ghost use Rattle.std.specs.Prelude.{◌≡◌, [], OnOk};
+ghost use Rattle.std.specs.Prelude.{◌≡◌, ◌++◌, [], OnOk};
 ghost use Rattle.sim_printing.specs.Printed.{IsBegun, PrintsOn};
 ghost use Rattle.sim_lines.specs.Further.{GoesFurther};
+ghost use Rattle.sim_lines.specs.Plays.{PlaysMessage};
+ghost use Rattle.sim_lines.specs.Turns.{PlaysAnswers, PlaysQueue, delivering_each, delivering_sent, scene_of, sending_as, uplink_of};
 
 use crate::script::Script;
 use identity_slots::StationNumber;
-use mme_core::Outs;
+use mme_core::{Out, Outs};
 use sim_crowd::{Crowd, Uplink};
 use sim_printing::{play_in, push_dropped};
 use std::alloc::{AllocError, Global};
@@ -24,6 +26,8 @@ pub(crate) fn play_message(
 ) -> Result<(), AllocError>
     requires { IsBegun script.old.progress }
     ensures printed { OnOk result (PrintsOn script.old.progress out.old.items script.new.progress out.new.items []) }
+    ensures plays { OnOk result
+        (PlaysMessage (uplink_of station octets.now) (scene_of script.old out.old.items) (scene_of script.new out.new.items)) }
     ensures goes { GoesFurther script.old.progress out.old.items script.new.progress out.new.items }
 {
     let sent = play_in(alloc, &mut script.progress, station, octets, out)?;
@@ -39,6 +43,8 @@ pub(crate) fn play_answers(
 ) -> Result<(), AllocError>
     requires { IsBegun script.old.progress }
     ensures printed { OnOk result (PrintsOn script.old.progress out.old.items script.new.progress out.new.items []) }
+    ensures plays { OnOk result
+        (PlaysAnswers (sending_as sent (scene_of script.old out.old.items)) (scene_of script.new out.new.items)) }
     ensures goes { GoesFurther script.old.progress out.old.items script.new.progress out.new.items }
 {
     let mut queue = Vec::new(alloc);
@@ -51,11 +57,21 @@ pub(crate) fn deliver(
     crowd: &mut Crowd,
     sent: Option<Outs>,
     queue: &mut Vec<Uplink>,
-) -> Result<(), AllocError> {
+) -> Result<(), AllocError>
+    ensures crowd { OnOk result (crowd.new ≡ (delivering_sent sent crowd.old).crowd) }
+    ensures queue { OnOk result (queue.new.items ≡ queue.old.items ++ (delivering_sent sent crowd.old).sent) }
+{
     let Some(outs) = sent else {
         return Ok(());
     };
-    for message in outs.as_slice() {
+    deliver_each(crowd, outs.as_slice(), queue)
+}
+
+fn deliver_each(crowd: &mut Crowd, sent: &[Out], queue: &mut Vec<Uplink>) -> Result<(), AllocError>
+    ensures crowd { OnOk result (crowd.new ≡ (delivering_each sent.now crowd.old).crowd) }
+    ensures queue { OnOk result (queue.new.items ≡ queue.old.items ++ (delivering_each sent.now crowd.old).sent) }
+{
+    for message in sent {
         crowd.deliver(message.station, message.octets.as_slice(), queue)?;
     }
     Ok(())
@@ -71,6 +87,7 @@ pub(crate) fn play_queue(
 ) -> Result<(), AllocError>
     requires { IsBegun script.old.progress }
     ensures printed { OnOk result (PrintsOn script.old.progress out.old.items script.new.progress out.new.items []) }
+    ensures plays { OnOk result (PlaysQueue queue.items (scene_of script.old out.old.items) (scene_of script.new out.new.items)) }
     ensures goes { GoesFurther script.old.progress out.old.items script.new.progress out.new.items }
 {
     for turn in 0..MOST_ANSWERS {

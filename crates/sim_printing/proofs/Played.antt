@@ -54,7 +54,7 @@ played-octets : (world : World) (e : ℕ) (octets : Bor (List ℕ))
 unfolding happens
 played-octets world e octets = refl
 
-reply-octets : (world : World) (e : ℕ) (octets : Bor (List ℕ))
+pub reply-octets : (world : World) (e : ℕ) (octets : Bor (List ℕ))
     → reply world (in_event e octets.now) ≡ reply world (event.In e octets)
 unfolding happens
 reply-octets world e octets = refl

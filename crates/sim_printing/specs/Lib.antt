@@ -1,4 +1,5 @@
 pub mod Printed
+pub mod Shown
 pub mod Stopped
 pub mod LineLaws
 pub mod PrintLaws

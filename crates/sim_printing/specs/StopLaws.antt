@@ -1,13 +1,11 @@
--- A trace that stops where memory is refused: where it stood, with nothing, with an MME, and one stop after another; and an output
--- that is cut back then.
-use Rattle.std.proofs.Common.{◌≡◌, ℕ, List, [], ◌∷◌, ◌++◌, length, take, Result, Ok, Err, Bor, inl, inr, refl, sym, ap, subst, ◌∙◌, append-nil, append_assoc}
-use Rattle.std.proofs.lemmas.List.{take_at}
+-- A trace that stops where memory is refused: where it stood, with nothing, with an MME, and one stop after another.
+use Rattle.std.proofs.Common.{◌≡◌, ℕ, List, [], ◌∷◌, ◌++◌, take, Result, Ok, Err, Bor, inl, inr, refl, sym, ap, subst, ◌∙◌}
 use Rattle.mme_core.specs.World.{World, fresh_world, reply, world_after, world_run}
 use Rattle.mme_core.specs.declared.event.Event.{Event}
 use Rattle.mme_core.specs.declared.event.Event.TheVariants as event
 use Rattle.mme_core.specs.declared.event.StepFault.{StepFault}
 use Rattle.mme_core.specs.mme_answering.declared.out.Out.{Out}
-use Rattle.trace_progress.specs.Acts.{IsPrefix, IsUnmade}
+use Rattle.trace_progress.specs.Acts.{IsUnmade}
 use Rattle.trace_progress.specs.declared.progress.Progress.{Progress}
 use Rattle.trace_progress.specs.declared.progress.Progress.TheVariants.{Nothing, Provisioning, Running}
 use Rattle.trace_progress.specs.Effects.{in_event, left_by, running}
@@ -96,16 +94,3 @@ IsFurther-then a b c p q = elim p [
     | inr on ↦ inr (inr (runs_further a b c on q))
   ]
 ]
-
--- ---- outputs
-
-pub IsPrefix-same : (out : List ℕ) → IsPrefix out out
-IsPrefix-same out = ([], sym (append-nil out))
-
-pub IsPrefix-then : (s t u : List ℕ) → IsPrefix s t → IsPrefix t u → IsPrefix s u
-IsPrefix-then s t u p q = (p.0 ++ q.0, q.1 ∙ ap (λ v. v ++ q.0) p.1 ∙ append_assoc s p.0 q.0)
-
--- an output that is cut back to its old length is what it was
-pub IsPrefix-cut : (before all after : List ℕ) (n : ℕ) → IsPrefix before all → n ≡ length before → after ≡ take n all
-    → after ≡ before
-IsPrefix-cut before all after n h e is = is ∙ ap (take n) h.1 ∙ take_at before h.0 n (sym e)

@@ -7,6 +7,7 @@ ghost use Rattle.trace_answers.specs.Words.{answer_text, answers_of, out_text, r
 ghost use Rattle.trace_progress.specs.Acts.{IsPrefix};
 ghost use Rattle.trace_progress.specs.Replies.{refusal_number};
 ghost use Rattle.sim_printing.specs.Printed.{AddsComments, dropped_line, skipped_line};
+ghost use Rattle.sim_printing.specs.Shown.{as_comment, sent_comments, with_line};
 
 use emm_machine::States;
 use mme_core::{Out, StepFault};
@@ -17,7 +18,7 @@ use trace_answers::{Answer, sent_line, write_answer};
 
 /// Appends a line. Where memory is refused the output stays.
 pub(crate) fn push_line(text: &[u8], out: &mut Vec<u8>) -> Result<(), AllocError>
-    ensures added { OnOk result (out.new.items ≡ out.old.items ++ (text.now ++ 10 ∷ [])) }
+    ensures added { OnOk result (out.new.items ≡ with_line text.now out.old.items) }
     ensures err { OnErr result (out.new.items ≡ out.old.items) }
 {
     push_both(text, b"\n", out)
@@ -42,6 +43,7 @@ fn push_both(first: &[u8], second: &[u8], out: &mut Vec<u8>) -> Result<(), Alloc
 /// Appends what an event sent, or where memory is refused the first lines of it.
 pub(crate) fn push_answers(alloc: Global, sent: &[Out], out: &mut Vec<u8>) -> Result<(), AllocError>
     ensures added { OnOk result (AddsComments out.old.items out.new.items (answers_of sent.now)) }
+    ensures appended { OnOk result (out.new.items ≡ out.old.items ++ sent_comments sent.now) }
     ensures err { OnErr result (IsPrefix out.old.items out.new.items) }
 {
     for message in sent {
@@ -52,6 +54,7 @@ pub(crate) fn push_answers(alloc: Global, sent: &[Out], out: &mut Vec<u8>) -> Re
 
 fn push_sent(alloc: Global, message: &Out, out: &mut Vec<u8>) -> Result<(), AllocError>
     ensures added { OnOk result (AddsComments out.old.items out.new.items (out_text message.now)) }
+    ensures appended { OnOk result (out.new.items ≡ out.old.items ++ as_comment (out_text message.now)) }
     ensures err { OnErr result (out.new.items ≡ out.old.items) }
 {
     message.octets.is_short();
@@ -66,6 +69,7 @@ pub(crate) fn push_refusal(
     out: &mut Vec<u8>,
 ) -> Result<(), AllocError>
     ensures added { OnOk result (AddsComments out.old.items out.new.items (refused_text (refusal_number fault))) }
+    ensures appended { OnOk result (out.new.items ≡ out.old.items ++ as_comment (refused_text (refusal_number fault))) }
     ensures memory { OnOk result (fault ≢ StepFault.NoMemory) }
     ensures err { OnErr result (out.new.items ≡ out.old.items) }
 {
@@ -86,6 +90,7 @@ pub(crate) fn push_states(
     out: &mut Vec<u8>,
 ) -> Result<(), AllocError>
     ensures added { OnOk result (AddsComments out.old.items out.new.items (states_text imsi states)) }
+    ensures appended { OnOk result (out.new.items ≡ out.old.items ++ as_comment (states_text imsi states)) }
     ensures err { OnErr result (out.new.items ≡ out.old.items) }
 {
     push_answer(alloc, &Answer::State(imsi, states), out)?;
@@ -96,6 +101,7 @@ pub(crate) fn push_states(
 fn push_answer(alloc: Global, answer: &Answer<'_>, out: &mut Vec<u8>) -> Result<(), AllocError>
     requires { octets_said answer.now ≤ longest }
     ensures added { OnOk result (AddsComments out.old.items out.new.items (answer_text answer.now)) }
+    ensures appended { OnOk result (out.new.items ≡ out.old.items ++ as_comment (answer_text answer.now)) }
     ensures err { OnErr result (out.new.items ≡ out.old.items) }
 {
     comments_are_not_kept();

@@ -1,6 +1,6 @@
 //! Events and questions, each printed as its trace line with its answers after it.
 
-ghost use Rattle.std.specs.Prelude.{◌≡◌, ◌∷◌, [], true, false, IfOk, OnOk, OnErr, is_some};
+ghost use Rattle.std.specs.Prelude.{◌≡◌, ◌∷◌, ◌++◌, [], true, false, IfOk, OnOk, OnErr, is_some};
 ghost use Rattle.std.specs.Result.{result_ok};
 ghost use Rattle.sim_words.specs.Kept.{kept_line};
 ghost use Rattle.mme_core.specs.World.{reply};
@@ -10,6 +10,7 @@ ghost use Rattle.trace_progress.specs.Replies.{reply_text};
 ghost use Rattle.trace_progress.specs.Stopping.{HasTaken};
 ghost use Rattle.trace_words.specs.declared.line.Line.TheVariants.{Show};
 ghost use Rattle.sim_printing.specs.Printed.{AddsComments, PrintsFrom, ReadsAs, event_line};
+ghost use Rattle.sim_printing.specs.Shown.{reply_comments, with_reply, with_states};
 
 use crate::comments::{push_answers, push_line, push_refusal, push_states};
 use mme_core::{Event, Mme, Outs};
@@ -30,6 +31,7 @@ pub fn print_event(
 ) -> Result<Option<Outs>, AllocError>
     requires { ReadsAs (event_line event.now) text.now }
     ensures printed { OnOk result (PrintsFrom mme.old out.old.items mme.new out.new.items (kept_line (event_line event.now))) }
+    ensures shown { OnOk result (out.new.items ≡ with_reply text.now (reply mme.old event.now) out.old.items) }
     ensures sent { IfOk result (λ sent. sent ≡ result_ok (reply mme.old event.now)) }
     ensures after { OnOk result (mme.new ≡ left_by mme.old event.now (reply mme.old event.now)) }
     ensures taken { OnErr result (HasTaken (event.now ∷ []) mme.old mme.new) }
@@ -55,6 +57,7 @@ fn print_reply(
     out: &mut Vec<u8>,
 ) -> Result<Option<Outs>, AllocError>
     ensures told { OnOk result (AddsComments out.old.items out.new.items (reply_text (reply mme.old event.now))) }
+    ensures appended { OnOk result (out.new.items ≡ out.old.items ++ reply_comments (reply mme.old event.now)) }
     ensures sent { IfOk result (λ sent. sent ≡ result_ok (reply mme.old event.now)) }
     ensures after { OnOk result (mme.new ≡ left_by mme.old event.now (reply mme.old event.now)) }
     ensures taken { OnErr result (HasTaken (event.now ∷ []) mme.old mme.new) }
@@ -85,6 +88,7 @@ pub fn print_show(
     ensures known { IfOk result (λ known. known ≡ is_some (states_of_imsi imsi mme.now)) }
     ensures printed { IfOk result
         (λ known. known ≡ true → PrintsFrom mme.now out.old.items mme.now out.new.items (kept_line (Show imsi))) }
+    ensures shown { OnOk result (out.new.items ≡ with_states text.now imsi (states_of_imsi imsi mme.now) out.old.items) }
     ensures unknown { IfOk result (λ known. known ≡ false → out.new.items ≡ out.old.items) }
     ensures err { OnErr result (out.new.items ≡ out.old.items) }
 {

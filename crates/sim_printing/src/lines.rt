@@ -5,7 +5,7 @@
 //! the event or not. An event that the MME refuses leaves it as it was.
 
 ghost use Rattle.std.specs.Prelude.{◌≡◌, ◌<◌, ◌≤◌, ◌∷◌, [], true, false, length, Ok, IfOk, OnOk, OnErr, IsNone, is_some};
-ghost use Rattle.trace_words.specs.declared.line.Line.TheVariants.{Mme, Sub, Vec, In, Data, Cancel, Show};
+ghost use Rattle.trace_words.specs.declared.line.Line.TheVariants.{Mme, Sub, Vec, Up, Lost, In, Tick, Data, Cancel, Show};
 ghost use Rattle.trace_words.specs.Trace.{line_text};
 ghost use Rattle.sim_words.specs.Kept.{kept_line};
 ghost use Rattle.mme_core.specs.World.{World};
@@ -14,6 +14,7 @@ ghost use Rattle.trace_progress.specs.declared.progress.Progress.TheVariants.{No
 ghost use Rattle.trace_progress.specs.Effects.{in_event, running, states_of_imsi};
 ghost use Rattle.trace_progress.specs.Stopping.{HasTaken, StopsWith};
 ghost use Rattle.sim_printing.specs.Printed.{AfterEvent, IfSent, IsBegun, PrintsLine, PrintsOn, ReadsAs, event_line};
+ghost use Rattle.sim_printing.specs.Shown.{RunsSame, ShowsEvent, ShowsStates, with_line};
 
 use crate::comments::push_line;
 use crate::events::{print_event, print_show};
@@ -39,7 +40,8 @@ pub fn play_mme(
     out: &mut Vec<u8>,
 ) -> Result<(), PlayFault>
     requires { ReadsAs (Mme network) text.now }
-    ensures { PrintsLine number (Mme network) progress.old out.old.items result progress.new out.new.items }
+    ensures printed { PrintsLine number (Mme network) progress.old out.old.items result progress.new out.new.items }
+    ensures shown { OnOk result (out.new.items ≡ with_line text.now out.old.items) }
 {
     first_word_tells();
     match start(alloc, progress, number, network) {
@@ -62,7 +64,8 @@ pub fn play_sub(
     out: &mut Vec<u8>,
 ) -> Result<(), PlayFault>
     requires { ReadsAs (Sub profile) text.now }
-    ensures { PrintsLine number (Sub profile) progress.old out.old.items result progress.new out.new.items }
+    ensures printed { PrintsLine number (Sub profile) progress.old out.old.items result progress.new out.new.items }
+    ensures shown { OnOk result (out.new.items ≡ with_line text.now out.old.items) }
 {
     first_word_tells();
     match add(progress, number, profile) {
@@ -86,7 +89,8 @@ pub fn play_vec(
     out: &mut Vec<u8>,
 ) -> Result<(), PlayFault>
     requires { ReadsAs (Vec imsi vector) text.now }
-    ensures { PrintsLine number (Vec imsi vector) progress.old out.old.items result progress.new out.new.items }
+    ensures printed { PrintsLine number (Vec imsi vector) progress.old out.old.items result progress.new out.new.items }
+    ensures shown { OnOk result (out.new.items ≡ with_line text.now out.old.items) }
 {
     first_word_tells();
     match give(progress, number, imsi, vector) {
@@ -121,6 +125,7 @@ pub fn play_up(
 ) -> Result<Option<Outs>, AllocError>
     requires { IsBegun progress.old }
     ensures printed { OnOk result (PrintsOn progress.old out.old.items progress.new out.new.items []) }
+    ensures shown { OnOk result (ShowsEvent progress.old (event.Up station) (line_text (Up station)) out.old.items out.new.items) }
     ensures sent { IfOk result (IfSent progress.old (event.Up station)) }
     ensures after { OnOk result (AfterEvent progress.old (event.Up station) progress.new) }
     ensures err { OnErr result (out.new.items ≡ out.old.items) }
@@ -140,6 +145,8 @@ pub fn play_lost(
 ) -> Result<Option<Outs>, AllocError>
     requires { IsBegun progress.old }
     ensures printed { OnOk result (PrintsOn progress.old out.old.items progress.new out.new.items []) }
+    ensures shown { OnOk result
+        (ShowsEvent progress.old (event.Lost station) (line_text (Lost station)) out.old.items out.new.items) }
     ensures sent { IfOk result (IfSent progress.old (event.Lost station)) }
     ensures after { OnOk result (AfterEvent progress.old (event.Lost station) progress.new) }
     ensures err { OnErr result (out.new.items ≡ out.old.items) }
@@ -161,6 +168,8 @@ pub fn play_in(
 ) -> Result<Option<Outs>, AllocError>
     requires { IsBegun progress.old }
     ensures printed { OnOk result (PrintsOn progress.old out.old.items progress.new out.new.items []) }
+    ensures shown { OnOk result (length (line_text (In station octets.now)) ≤ 40000
+        → ShowsEvent progress.old (in_event station octets.now) (line_text (In station octets.now)) out.old.items out.new.items) }
     ensures sent { IfOk result
         (λ sent. length (line_text (In station octets.now)) ≤ 40000 → IfSent progress.old (in_event station octets.now) sent) }
     ensures long { IfOk result (λ sent. 40000 < length (line_text (In station octets.now)) → IsNone sent) }
@@ -188,6 +197,7 @@ pub fn play_tick(
 ) -> Result<Option<Outs>, AllocError>
     requires { IsBegun progress.old }
     ensures printed { OnOk result (PrintsOn progress.old out.old.items progress.new out.new.items []) }
+    ensures shown { OnOk result (ShowsEvent progress.old event.Tick (line_text (Tick 1)) out.old.items out.new.items) }
     ensures sent { IfOk result (IfSent progress.old event.Tick) }
     ensures after { OnOk result (AfterEvent progress.old event.Tick progress.new) }
     ensures err { OnErr result (out.new.items ≡ out.old.items) }
@@ -208,6 +218,7 @@ pub fn play_data(
     requires begun { IsBegun progress.old }
     requires says { ReadsAs (Data imsi) text.now }
     ensures printed { OnOk result (PrintsOn progress.old out.old.items progress.new out.new.items (kept_line (Data imsi))) }
+    ensures shown { OnOk result (ShowsEvent progress.old (event.Data imsi) text.now out.old.items out.new.items) }
     ensures sent { IfOk result (IfSent progress.old (event.Data imsi)) }
     ensures after { OnOk result (AfterEvent progress.old (event.Data imsi) progress.new) }
     ensures err { OnErr result (out.new.items ≡ out.old.items) }
@@ -228,6 +239,7 @@ pub fn play_cancel(
     requires begun { IsBegun progress.old }
     requires says { ReadsAs (Cancel imsi) text.now }
     ensures printed { OnOk result (PrintsOn progress.old out.old.items progress.new out.new.items (kept_line (Cancel imsi))) }
+    ensures shown { OnOk result (ShowsEvent progress.old (event.Cancel imsi) text.now out.old.items out.new.items) }
     ensures sent { IfOk result (IfSent progress.old (event.Cancel imsi)) }
     ensures after { OnOk result (AfterEvent progress.old (event.Cancel imsi) progress.new) }
     ensures err { OnErr result (out.new.items ≡ out.old.items) }
@@ -248,6 +260,7 @@ fn play_event(
     requires says { ReadsAs (event_line event.now) text.now }
     ensures printed { OnOk result
         (PrintsOn progress.old out.old.items progress.new out.new.items (kept_line (event_line event.now))) }
+    ensures shown { OnOk result (ShowsEvent progress.old event.now text.now out.old.items out.new.items) }
     ensures sent { IfOk result (IfSent progress.old event.now) }
     ensures after { OnOk result (AfterEvent progress.old event.now progress.new) }
     ensures err { OnErr result (out.new.items ≡ out.old.items) }
@@ -277,6 +290,9 @@ pub fn play_show(
     requires says { ReadsAs (Show imsi) text.now }
     ensures printed { IfOk result
         (λ known. known ≡ true → PrintsOn progress.old out.old.items progress.new out.new.items (kept_line (Show imsi))) }
+    ensures shown { IfOk result
+        (λ known. known ≡ true → ShowsStates progress.old imsi text.now out.old.items out.new.items) }
+    ensures after { IfOk result (λ known. known ≡ true → RunsSame progress.old progress.new) }
     ensures unknown { IfOk result (λ known. known ≡ false → (progress.new ≡ progress.old) × (out.new.items ≡ out.old.items)) }
     ensures known { IfOk result
         (λ known. (world : World) → running progress.old ≡ Ok world → known ≡ is_some (states_of_imsi imsi world)) }

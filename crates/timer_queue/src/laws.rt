@@ -2,13 +2,12 @@
 
 ghost use Rattle.timer_queue.specs.Rank.{InOwnerOrder, ProcedureFirst, TimersApart};
 
-/// No two timers have one place in the order, so a list in this order with each timer once is a map, and timers of two owners don't
-/// affect each other.
+/// No two timers have one place in the order, so a list in this order has each timer once.
 pub fn timers_apart()
     ensures { TimersApart }
 {}
 
-/// Timers stand in the order of their owners, and those that end together end in it.
+/// The timers of an owner stand before those of each owner of a higher rank.
 pub fn in_owner_order()
     ensures { InOwnerOrder }
 {}

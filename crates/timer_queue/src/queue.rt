@@ -2,6 +2,7 @@
 
 ghost use Rattle.std.specs.Prelude.{◌≡◌, ℕ, ◌+◌, ◌*◌, ◌<◌, ◌≤◌, ◌^◌, ◌↔◌, List, [], IfOk, IsOk, IsErr, OnOk, OnErr, Option, Err, None, false};
 ghost use Rattle.timer_queue.specs.declared.queue.TickFault.TheVariants.{ClockSpent, NoMemory};
+ghost use Rattle.nas_elements.specs.Timers.{mobile_reachable_ticks};
 ghost use Rattle.sorted_list.specs.Ordered.{Rising, Every};
 ghost use Rattle.timer_queue.specs.Countdowns.{Countdowns, countdown_rank, ticks_left, started, stopped, due_of, aged};
 ghost use Rattle.timer_queue.specs.Queued.{moment, index_rank, leading, later_than, IsQueue, IsDeadlineIndex};
@@ -189,10 +190,10 @@ impl Timers {
         Ok(())
     }
 
-    /// Starts a timer of 1 to 3480 ticks, in place of one that runs. Where there is room it isn't refused; where it is the timers
-    /// and the room are as they were.
+    /// Starts a timer of 1 to MOBILE_REACHABLE_TICKS, in place of one that runs. Where there is room it isn't refused; where it is
+    /// the timers and the room are as they were.
     pub fn start(&mut self, owner: TimerOwner, kind: Kind, ticks: u64) -> Result<(), AllocError>
-        requires { (1 ≤ ticks) × (ticks ≤ 3480) }
+        requires { (1 ≤ ticks) × (ticks ≤ mobile_reachable_ticks) }
         ensures clock { self.new.clock ≡ self.old.clock }
         ensures running { OnOk result (self.new.running ≡ started owner kind ticks self.old.running) }
         ensures err { OnErr result (self.new.running ≡ self.old.running) }
@@ -205,9 +206,9 @@ impl Timers {
         Ok(())
     }
 
-    /// Starts a timer of 1 to 3480 ticks, in place of one that runs, where there is room. Takes no memory.
+    /// Starts a timer of 1 to MOBILE_REACHABLE_TICKS, in place of one that runs, where there is room. Takes no memory.
     pub fn start_reserved(&mut self, owner: TimerOwner, kind: Kind, ticks: u64)
-        requires ticks { (1 ≤ ticks) × (ticks ≤ 3480) }
+        requires ticks { (1 ≤ ticks) × (ticks ≤ mobile_reachable_ticks) }
         requires room { 0 < self.old.room }
         ensures clock { self.new.clock ≡ self.old.clock }
         ensures running { self.new.running ≡ started owner kind ticks self.old.running }
@@ -219,9 +220,9 @@ impl Timers {
         self.start_stopped(owner, kind, ticks);
     }
 
-    /// Starts a timer of 1 to 3480 ticks that doesn't run, where there is room. Takes no memory.
+    /// Starts a timer of 1 to MOBILE_REACHABLE_TICKS that doesn't run, where there is room. Takes no memory.
     pub fn start_stopped(&mut self, owner: TimerOwner, kind: Kind, ticks: u64)
-        requires ticks { (1 ≤ ticks) × (ticks ≤ 3480) }
+        requires ticks { (1 ≤ ticks) × (ticks ≤ mobile_reachable_ticks) }
         requires off { ticks_left owner kind self.old.running ≡ None }
         requires room { 0 < self.old.room }
         ensures clock { self.new.clock ≡ self.old.clock }

@@ -7,7 +7,7 @@ use Rattle.trace_progress.specs.declared.fault.PlayFault.TheVariants.{Trace, Rea
 use Rattle.trace_answers.specs.Words.{answers_of, out_text}
 use Rattle.trace_answers.specs.WordLaws.{answers_of-append, answers_of-more}
 use Rattle.trace_progress.specs.Acts.{IsPrefix, Puts}
-use Rattle.trace_run.specs.FrontLaws.{IsPrefix-of, IsPrefix-after, IsPrefix-more}
+use Rattle.trace_progress.specs.FrontLaws.{IsPrefix-of, IsPrefix-after, IsPrefix-more}
 
 pub answers_of-front : (outs : List Out) (i : ℕ) (out : Out) → i < length outs → out ≡ get_or outs i out
     → IsPrefix (answers_of (take i outs) ++ out_text out) (answers_of outs)

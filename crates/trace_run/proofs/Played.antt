@@ -11,7 +11,7 @@ use Rattle.trace_progress.specs.Effects.{Effect}
 use Rattle.trace_progress.specs.Faults.{in_line}
 use Rattle.trace_progress.specs.Text.{Played, prepended, played_text, play, then_play, line_effect, lines_of, played_of}
 use Rattle.trace_progress.specs.Acts.{IsPrefix, Acts, effect_text}
-use Rattle.trace_run.specs.FrontLaws.{IsPrefix-nil, IsPrefix-of, IsPrefix-after, IsPrefix-more}
+use Rattle.trace_progress.specs.FrontLaws.{IsPrefix-nil, IsPrefix-of, IsPrefix-after, IsPrefix-more}
 use Rattle.trace_run.specs.Watching.{failed_after_play}
 use Rattle.trace_progress.specs.TextLaws.{line_of-long, play-cons, play-nil, prepended-then, prepended-ends}
 use Rattle.trace_run.specs.OneLine.{IsOfLine}

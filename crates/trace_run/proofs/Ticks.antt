@@ -8,7 +8,7 @@ use Rattle.mme_core.specs.mme_answering.declared.out.Out.{Out}
 use Rattle.trace_progress.specs.Replies.{reply_text}
 use Rattle.trace_progress.specs.Effects.{left_by, with_text_before, tick_then, ticked}
 use Rattle.trace_progress.specs.Acts.{IsPrefix}
-use Rattle.trace_run.specs.FrontLaws.{IsPrefix-of, IsPrefix-after}
+use Rattle.trace_progress.specs.FrontLaws.{IsPrefix-of, IsPrefix-after}
 
 -- after n ticks: what they wrote, and the world that they left
 abbrev pub Ticking : World → ℕ → World → List ℕ → Type 0

@@ -4,6 +4,5 @@ pub mod OneLine
 pub mod PartLaws
 pub mod Parts
 pub mod OctetLaws
-pub mod FrontLaws
 pub mod Leaving
 pub mod Watching

@@ -3,6 +3,8 @@ use Rattle.sim_words.specs.Kept.{kept_line}
 use Rattle.mme_core.specs.declared.event.Event.TheVariants as event
 use Rattle.sim_lines.proofs.Printing.{PrintsOn-on}
 use Rattle.sim_lines.proofs.Further.{played, stopped, then_on}
+use Rattle.sim_lines.specs.Turns.{scene_of, sending, sending_as}
+use Rattle.sim_lines.proofs.Playing.{PlaysAnswers-as, scene, sending-is}
 use Rattle.sim_lines.proofs.lines.play_waiting.Goals as goal
 
 pub returns-in_err-sent-clause-goes : goal.returns-in_err-sent-clause-goes
@@ -18,3 +20,17 @@ pub returns-clause-goes : goal.returns-clause-goes
 returns-clause-goes c =
     then_on (played (event.Data c.args.imsi) (kept_line (Data c.args.imsi)) c.requires.begun c.in_ok-sent.ensures.printed c.in_ok-sent.ensures.after)
     c.play_answers.ensures.goes
+
+pub returns-clause-plays : goal.returns-clause-plays
+returns-clause-plays c =
+    let happens = event.Data c.args.imsi in
+    let text = c.args.text.now in
+    let old = c.args.script.now in
+    let sent = c.in_ok-sent.sent in
+    let progress = c.play_data.new.progress in
+    let page = c.play_data.new.out.items in
+    PlaysAnswers-as c.play_answers.result (sending_as sent (scene progress old.crowd page))
+    (sending happens text (scene_of old c.args.out.now.items)) (scene_of c.play_answers.new.script c.play_answers.new.out.items)
+    (sending-is happens text old.progress progress old.crowd c.args.out.now.items page sent c.requires.begun
+    c.in_ok-sent.ensures.sent c.in_ok-sent.ensures.after c.in_ok-sent.ensures.shown)
+    c.play_answers.ensures.plays

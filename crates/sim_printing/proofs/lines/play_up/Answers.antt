@@ -1,8 +1,17 @@
-use Rattle.std.proofs.Common.{string_bytes}
+use Rattle.std.proofs.Common.{string_bytes, ◌∙◌}
 use Rattle.trace_words.specs.declared.line.Line.TheVariants.{Up}
 use Rattle.sim_printing.specs.PrintLaws.{ReadsAs-text}
+use Rattle.mme_core.specs.declared.event.Event.TheVariants as event
+use Rattle.trace_words.specs.Trace.{line_text}
+use Rattle.sim_printing.proofs.Shown.{ShowsEvent-line}
 use Rattle.sim_printing.proofs.lines.play_up.Goals as goal
 
 pub play_event-requires-clause-says : goal.play_event-requires-clause-says
 play_event-requires-clause-says c =
     ReadsAs-text (Up c.args.station) (string_bytes c.in_ok-text.text) c.as_bytes.result.now c.as_bytes.ensures.value c.in_ok-text.ensures.read c.in_ok-text.ensures.unbroken
+
+pub returns-clause-shown : goal.returns-clause-shown
+returns-clause-shown c =
+    let line = line_text (Up c.args.station) in
+    ShowsEvent-line c.args.progress.now (event.Up c.args.station) c.as_bytes.result.now line c.args.out.now.items
+    c.play_event.new.out.items (c.as_bytes.ensures.value ∙ c.in_ok-text.ensures.text) c.in_ok-sent.ensures.shown

@@ -4,15 +4,15 @@ use Rattle.trace_progress.specs.Effects.{vector_given}
 use Rattle.sim_printing.proofs.Played.{vec_effect, Prints-provisioned, PrintsLine-fault, PrintsLine-unprinted}
 use Rattle.sim_printing.proofs.lines.play_vec.Goals as goal
 
-pub returns-in-Err : goal.returns-in-Err
-returns-in-Err c =
+pub returns-in-Err-clause-printed : goal.returns-in-Err-clause-printed
+returns-in-Err-clause-printed c =
     PrintsLine-fault c.args.number (Vec c.args.imsi c.args.vector)
     (vector_given c.args.progress.now c.args.imsi c.args.vector) c.args.progress.now c.give.new.progress c.args.out.now.items c.in-Err.fault
     (vec_effect c.args.progress.now c.args.imsi c.args.vector) c.in-Err.ensures.acts c.in-Err.ensures.err c.in-Err.ensures.write
     c.in-Err.ensures.fault
 
-pub returns-in-Ok-push_line : goal.returns-in-Ok-push_line
-returns-in-Ok-push_line c =
+pub returns-in-Ok-push_line-clause-printed : goal.returns-in-Ok-push_line-clause-printed
+returns-in-Ok-push_line-clause-printed c =
     let line = Vec c.args.imsi c.args.vector in
     let effect = vec_effect c.args.progress.now c.args.imsi c.args.vector ∙ c.in-Ok.ensures.acts in (
       effect,
@@ -20,7 +20,7 @@ returns-in-Ok-push_line c =
           c.push_line.new.out.items c.args.text.now line c.requires (λ s. cc s) effect c.in-Ok-push_line.ensures.added,
     )
 
-pub returns-in-Err-push_line : goal.returns-in-Err-push_line
-returns-in-Err-push_line c =
+pub returns-in-Err-push_line-clause-printed : goal.returns-in-Err-push_line-clause-printed
+returns-in-Err-push_line-clause-printed c =
     PrintsLine-unprinted c.args.number (Vec c.args.imsi c.args.vector) c.args.progress.now c.give.new.progress c.args.out.now.items c.push_line.new.out.items
     (vec_effect c.args.progress.now c.args.imsi c.args.vector ∙ c.in-Ok.ensures.acts) c.in-Err-push_line.ensures.err

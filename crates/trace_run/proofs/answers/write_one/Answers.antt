@@ -1,6 +1,6 @@
 use Rattle.std.proofs.Common.{ap, ◌∙◌, take}
 use Rattle.trace_answers.specs.Words.{answer_text}
-use Rattle.trace_run.specs.FrontLaws.{IsPrefix-take, IsPrefix-of, IsPrefix-all}
+use Rattle.trace_progress.specs.FrontLaws.{IsPrefix-take, IsPrefix-of, IsPrefix-all}
 use Rattle.trace_run.specs.Watching.{failed_after_octets}
 use Rattle.trace_run.proofs.answers.write_one.Goals as goal
 
