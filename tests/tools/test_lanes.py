@@ -63,12 +63,19 @@ class Sharing(unittest.TestCase):
         with unittest.mock.patch.dict(CRATES, chain, clear=True):
             self.assertEqual(lanes.chains_of(Machine(4).tasks()), {(name, "proof") for name in ("low", "first", "second")})
 
+    def test_what_stands_beside_a_chain(self):
+        """The next of a chain waits for each crate that it stands on, so one beside the chain belongs to it if it would end later."""
+        for lines, also in ((0, ()), (500, ()), (700, ("beside",)), (1300, ("beside",))):
+            crates = {"low": ((), 100), "next": (("low",), 1500), "beside": (("low",), lines), "top": (("next", "beside"), 100)}
+            with unittest.mock.patch.dict(CRATES, crates, clear=True):
+                self.assertEqual(lanes.chains_of(Machine(4).tasks()), {(name, "proof") for name in ("low", "next", "top", *also)})
+
     def test_what_tests_wait_for(self):
         """The chains are those to the program and to the library for C, however few lines they have, and what they stand on comes before
         what has more lines after it."""
         with unittest.mock.patch.dict(CRATES, {"mme_c": (("low",), 1), "mme": (("low", "small"), 1)}):
             tasks = Machine(4).tasks()
-            self.assertEqual(lanes.chains_of(tasks), {(name, "proof") for name in ("low", "mme_c", "mme")})
+            self.assertEqual(lanes.chains_of(tasks), {(name, "proof") for name in ("low", "small", "mme_c", "mme")})
             self.assertEqual([key[0] for key in lanes.Sharing(tasks, 4, MEMORY).left[:2]], ["low", "small"])
 
     def test_each_task_once_with_what_it_waits_for(self):

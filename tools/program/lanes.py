@@ -11,6 +11,8 @@ import functools
 import inspect
 import os
 
+from tools.program import record
+
 # The processes of a proof of a chain, the most of any other, and the fewest processors that chains are first on.
 OF_CHAIN, MOST, FEWEST = 2, 4, 4
 # The share of what is free that tasks may take of memory, and what each further process of a proof takes of its memory.
@@ -19,7 +21,7 @@ PROOFS, FILLS = ("proof", "tests"), ("seed", "edits")
 # What a proof takes besides its lines, in lines: it reads the libraries below, and makes its own.
 OF_ITSELF = 300
 # The crates whose chains come first, and what takes its time once they are proved, in lines: compilers, and tests that wait for that.
-AFTER = {"mme": 13000, "mme_c": 10000}
+AFTER = {record.NAME: 13000, record.LIBRARY: 10000}
 
 
 def work_of(tasks, key):
@@ -38,7 +40,8 @@ def work_from(tasks):
 
 
 def chains_of(tasks):
-    """Returns the proofs of the longest chain to each of those crates, or of the longest of all where there is none of them."""
+    """Returns the proofs of the longest chain to each of those crates, or of the longest of all where there is none of them; and with
+    them what the next of a chain also waits for, where by one process it would end after the chain's own."""
     done = {}
     for key in tasks:
         done[key] = work_of(tasks, key) + max((done[it] for it in tasks[key][0]), default=0)
@@ -47,7 +50,9 @@ def chains_of(tasks):
     for key in [key for key in proofs if key[0] in AFTER] or [max(proofs, key=done.get)]:
         while key:
             chains.add(key)
-            key = max(tasks[key][0], key=done.get, default=None)
+            below = tasks[key][0]
+            key = max(below, key=done.get, default=None)
+            chains.update(it for it in below if done[it] + work_of(tasks, it) > done[key])
     return chains
 
 
