@@ -587,6 +587,17 @@ class Whole(unittest.TestCase):
         self.passes()
         self.phone.leaves()
 
+    def test_gateway_killed_before_a_socket_was_kept(self):
+        """Its device goes, and the phones there have another one."""
+        [context] = self.world.contexts_of(self.phone)
+        self.world.end_gateway()
+        with inside(MACHINE):
+            os.close(self.world.keeper.files.pop(socket.if_indextoname(context.device)))
+        self.world.begin_gateway()
+        self.world.is_tunnel(self.phone, 0, self.phone.b)
+        self.passes()
+        self.phone.leaves()
+
     def test_gateway_killed_at_each_step(self):
         """Of an attach; the phone has its tunnel in the end, and not before its station's response."""
         self.phone.detaches()

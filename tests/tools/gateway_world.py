@@ -298,7 +298,8 @@ class Keeper:
     while it is away."""
 
     def __init__(self, folder):
-        self.path, self.files, self.process, self.is_ready = str(folder / "notify"), {}, None, threading.Event()
+        self.path, self.files, self.process = str(folder / "notify"), {}, None
+        self.is_ready, self.is_heard = threading.Event(), threading.Event()
         self.socket = socket.socket(socket.AF_UNIX, socket.SOCK_DGRAM)
         self.socket.bind(self.path)
         self.keeps, self.told = True, []
@@ -316,6 +317,8 @@ class Keeper:
                 os.close(self.files.pop(words["FDNAME"]))
             if "READY" in words:
                 self.is_ready.set()
+            if "HEARD" in words:
+                self.is_heard.set()
 
     def start(self, *words):
         """Begins a gateway, with what was kept; it is ready then."""
@@ -337,8 +340,14 @@ class Keeper:
         return "".join(self.told)
 
     def end(self, number):
+        """Ends the gateway, and has heard then all that it told."""
         self.process.send_signal(number)
-        return self.process.wait(PATIENCE)
+        status = self.process.wait(PATIENCE)
+        self.is_heard.clear()
+        with socket.socket(socket.AF_UNIX, socket.SOCK_DGRAM) as telling:
+            telling.sendto(b"HEARD=1", self.path)
+        assert self.is_heard.wait(PATIENCE)
+        return status
 
     def forget(self):
         """A service manager that keeps nothing."""
@@ -365,7 +374,7 @@ class World:
         head.provision(self.phones)
         self.subscribers, self.log, self.control = (self.folder / name for name in ("subscribers", "log", "log.control"))
         self.subscribers.write_text(head.text())
-        self.front, self.front_told, self.contexts = None, [], None
+        self.front, self.front_told, self.contexts, self.routes = None, [], None, None
 
     def close(self):
         """Ends all of it, and leaves the stations' namespaces."""
@@ -468,14 +477,23 @@ class World:
         return self.metric("dropped_total{way=\"from stations\",why=\"%s\"" % why)
 
     def is_tunnel(self, phone, number, b=None):
-        """Waits until the kernel has a phone's tunnel lead to a station under a TEID, or has none."""
+        """Waits until the kernel has a phone's tunnel lead to a station under a TEID, and the phone's packets to it, or has none."""
         wanted = [] if number is None else [(STATIONS[number], b)]
-        until(lambda: self.tunnels_of(phone) == wanted, lambda: "%s isn't %s\n%s" % (
+        until(lambda: self.tunnels_of(phone) == wanted and self.is_routed(phone), lambda: "%s isn't %s\n%s" % (
             self.tunnels_of(phone), wanted, self.keeper.said()))
 
-    def tunnels_of(self, phone):
-        """Where the kernel's contexts of a phone lead to."""
+    def contexts_of(self, phone):
+        """The kernel's contexts of a phone."""
         if self.contexts is None:
             with inside(MACHINE):
-                self.contexts = contexts.Contexts()
-        return [(socket.inet_ntoa(each.station), each.station_teid) for each in self.contexts.all() if each.phone == phone.address]
+                self.contexts, self.routes = contexts.Contexts(), links.Links()
+        return [each for each in self.contexts.all() if each.phone == phone.address]
+
+    def tunnels_of(self, phone):
+        """Where they lead to."""
+        return [(socket.inet_ntoa(each.station), each.station_teid) for each in self.contexts_of(phone)]
+
+    def is_routed(self, phone):
+        """Whether packets to a phone come to the device of each of its contexts."""
+        devices = {each.device for each in self.contexts_of(phone)}
+        return devices == {index for address, index in self.routes.routes_to(devices) if address == phone.address}

@@ -64,11 +64,11 @@ class Devices:
         self.others = sockets.made(self.address) if kept is None else socket.socket(fileno=kept)
         self.others.setblocking(False)
         self.watch(self.others)
-        if kept is None:
-            self.remove_left()
-            self.kept.keep(OTHERS, self.others.fileno())
         while kept is not None and (file := self.kept.take(self.name_of(len(self.all) + 1))) is not None:
             self.take_up(socket.socket(fileno=file))
+        self.remove_left(kept is None)
+        if kept is None:
+            self.kept.keep(OTHERS, self.others.fileno())
 
     def lock(self):
         """Keeps a second gateway from this address, which it might bind, and from these devices."""
@@ -80,11 +80,11 @@ class Devices:
             except OSError as fault:
                 raise Refused("another gateway runs for %s" % name, fault.errno) from None
 
-    def remove_left(self):
-        """Devices of a run whose sockets are gone take nothing any more."""
+    def remove_left(self, with_idle):
+        """Devices of another run whose sockets weren't kept take nothing any more; so does that of idle phones, if it wasn't."""
         for index, name in socket.if_nameindex():
             base, _, place = name.rpartition("-")
-            if base == self.base and (place.isdigit() or place == IDLE):
+            if base == self.base and (place.isdigit() and index not in self.by_index() or place == IDLE and with_idle):
                 self.links.remove(index)
 
     def take_up(self, sock):
