@@ -27,12 +27,14 @@ BUT_FOR_HOLES = ("no holes", "depends on a hole in ")
 
 
 def functions_of(crate):
-    """Returns the functions of a crate that have proofs, as paths with dots, by the library that `rt ci` built of it; none where there is
-    no such library. A trait's own methods, closures and what drops a value have none that could be granted."""
-    file = os.path.join(crate.rlib, "toolchain", "checked.json")
-    if not os.path.isfile(file):
+    """Returns the functions of a crate that have proofs, as paths with dots, by the library that `rt ci` built of it, or by what its check
+    left of a static library; none where there is neither. A trait's own methods, closures and what drops a value have none that could be
+    granted."""
+    left = [os.path.join(folder, "toolchain", "checked.json") for folder in (crate.rlib, os.path.join(crate.folder, "out", "checked"))]
+    file = next(filter(os.path.isfile, left), None)
+    if file is None:
         return []
-    module = re.compile(rf'"part/Rattle-{crate.name}-proofs\.([^"]+)\.(Code|Met|Statement)"')
+    module = re.compile(rf'"(?:part/)?Rattle-{crate.name}-proofs\.([^"]+)\.(Code|Met|Statement)"')
     parts = collections.defaultdict(set)
     with open(file, encoding="utf-8") as lines:
         for path, part in module.findall(lines.read()):

@@ -64,6 +64,13 @@ class Granted(OfCrate):
         self.crate.rlib += ".none"
         self.assertEqual(granted.functions_of(self.crate), [])
 
+    def test_functions_of_a_static_library(self):
+        """It has no library, but what its check left, in which modules are named otherwise."""
+        self.crate.rlib += ".none"
+        lines = ['["Rattle-kept-proofs.%s",7,8]\n' % module for module in MODULES]
+        self.write(pathlib.Path(self.crate.folder) / "out" / "checked" / "toolchain" / "checked.json", "".join(lines))
+        self.assertEqual(sorted(granted.functions_of(self.crate)), ["Kept.one", "left", "plain"])
+
     def test_all_but_one(self):
         with granted.all_but(self.crate, ["left"]) as (own, asked):
             self.assertEqual((asked, own.name), (["--allow-holes"], "kept"))
