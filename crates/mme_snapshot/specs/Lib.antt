@@ -1,0 +1,3 @@
+pub mod Images
+pub mod Restored
+pub mod Buildings

@@ -1,0 +1,28 @@
+//! Why octets are no snapshot, and why an MME isn't saved.
+
+use identity_slots::{AssociationId, ProvisionFault, Slot};
+
+/// Why octets don't restore to an MME: the first fault from the left.
+#[derive(Clone, Copy, PartialEq, Eq)]
+pub enum RestoreFault {
+    /// Of another version, which is this.
+    Version(u8),
+    /// They spell no part at some place.
+    Octets,
+    /// There are more after the last part, or the padding isn't zeros.
+    More,
+    /// The access point name isn't one label.
+    Network,
+    /// The IMSI or the address of this slot is another's.
+    Profile(Slot, ProvisionFault),
+    /// No phone's machine can be in the state of this slot.
+    Subscriber(Slot),
+    /// No stranger has this id, or none can be in this state, or the ids don't rise.
+    Stranger(AssociationId),
+    /// The connection of this slot has an id that isn't its own.
+    Id(Slot),
+    /// More next hops would have to be derived than the caller allows.
+    Work,
+    /// Memory was refused.
+    NoMemory,
+}
