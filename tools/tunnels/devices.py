@@ -81,7 +81,7 @@ class Devices:
                 raise Refused("another gateway runs for %s" % name, fault.errno) from None
 
     def remove_left(self, with_idle):
-        """Devices of another run whose sockets weren't kept take nothing any more; so does that of idle phones, if it wasn't."""
+        """Removes devices of another run whose sockets weren't kept, as they take nothing any more; that of idle phones if it is asked."""
         for index, name in socket.if_nameindex():
             base, _, place = name.rpartition("-")
             if base == self.base and (place.isdigit() and index not in self.by_index() or place == IDLE and with_idle):
