@@ -206,6 +206,18 @@ class Command(unittest.TestCase):
                     unittest.mock.patch.object(rt.rtlib, "RATTLE", rt.rtlib.RATTLE):
                 self.assertEqual(toolchain.main([word]), wanted)
 
+    def test_proves_all(self):
+        """A toolchain that keeps nothing proves all at any rate, and is asked for no more."""
+        for keeps, wanted in ((True, ["ci", "--anew"]), (False, ["ci"])):
+            rt = toolchain.module()
+            rt.main = lambda words: words
+            vars(rt).pop("Kept", None)
+            if keeps:
+                rt.Kept = object
+            with self.subTest(keeps=keeps), unittest.mock.patch.object(toolchain, "module", return_value=rt), \
+                    unittest.mock.patch.object(toolchain, "make_provers_quicker"):
+                self.assertEqual(toolchain.main(["ci", "--anew"]), wanted)
+
     def test_without_a_toolchain(self):
         with tempfile.TemporaryDirectory() as room:
             done = self.ran(sys.executable, SCRIPT, "version", env={"PATH": room})
