@@ -8,15 +8,15 @@ use Rattle.trace_words.specs.declared.line.Line.TheVariants.{Skip}
 use Rattle.trace_words.specs.declared.fault.TraceFault.{TraceFault}
 use Rattle.trace_words.specs.declared.fault.TraceFault.TheVariants.{UnknownWord, FieldCount, BadNumber, TooLong}
 use Rattle.trace_words.specs.Trace.{◌>>=◌, number_field, station_field, subscriber_field, octets_field, sized_of, is_skipped, read_words, line_of, line_text}
-use Rattle.sim_words.specs.declared.act.ScriptAct.{ScriptAct}
-use Rattle.sim_words.specs.declared.act.ScriptAct.TheVariants.{Station, Up, Raw, Radio, Phone}
-use Rattle.sim_words.specs.declared.act.RadioWord.{RadioWord}
-use Rattle.sim_words.specs.declared.act.RadioWord.TheVariants.{Attach, Info, Foreign, Service, Tau, Switch}
-use Rattle.sim_words.specs.declared.act.PhoneWord.{PhoneWord}
-use Rattle.sim_words.specs.declared.act.PhoneWord.TheVariants.{Detach, Off, Idle, Deaf, Replay, Forge}
-use Rattle.sim_words.specs.declared.line.ScriptLine.{ScriptLine}
-use Rattle.sim_words.specs.declared.line.ScriptLine.TheVariants.{Trace, Act}
-use Rattle.sim_words.specs.Kept.{is_kept_word, is_kept_text, is_kept_line, kept_in}
+use Rattle.trace_words.specs.declared.act.ScriptAct.{ScriptAct}
+use Rattle.trace_words.specs.declared.act.ScriptAct.TheVariants.{Station, Up, Raw, Radio, Phone}
+use Rattle.trace_words.specs.declared.act.RadioWord.{RadioWord}
+use Rattle.trace_words.specs.declared.act.RadioWord.TheVariants.{Attach, Info, Foreign, Service, Tau, Switch}
+use Rattle.trace_words.specs.declared.act.PhoneWord.{PhoneWord}
+use Rattle.trace_words.specs.declared.act.PhoneWord.TheVariants.{Detach, Off, Idle, Deaf, Replay, Forge}
+use Rattle.trace_words.specs.declared.script_line.ScriptLine.{ScriptLine}
+use Rattle.trace_words.specs.declared.script_line.ScriptLine.TheVariants.{Trace, Act}
+use Rattle.trace_words.specs.Kept.{is_kept_word, is_kept_text, is_kept_line, kept_in}
 
 -- ---- fields
 

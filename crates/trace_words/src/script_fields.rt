@@ -1,13 +1,13 @@
 //! The fields of acts, each from its text.
 
 ghost use Rattle.std.specs.Prelude.{◌≡◌, ◌<◌, IfOk};
-ghost use Rattle.sim_words.specs.Script.{area_field, enb_ue_id_field, five_digits, hex_digit, macro_field};
+ghost use Rattle.trace_words.specs.Script.{area_field, enb_ue_id_field, five_digits, hex_digit, macro_field};
 
-use crate::values::MacroId;
+use crate::fault::TraceFault;
+use crate::fields::{number, sized_octets};
+use crate::script_values::MacroId;
 use per_bits::Whole;
 use s1ap_elements::EnbUeId;
-use trace_words::TraceFault;
-use trace_words::fields::{number, sized_octets};
 
 /// One hex digit, of either case.
 fn hex_digit(octet: u8) -> Result<u32, TraceFault>

@@ -1,14 +1,15 @@
 //! One line of a script.
 
 ghost use Rattle.std.specs.Prelude.{◌≡◌, ◌⊎◌, ◌==◌, map, IfOk, Ok, Err};
-ghost use Rattle.sim_words.specs.Kept.{is_kept_word};
-ghost use Rattle.sim_words.specs.Script.{Says, script_line_of, script_words, is_trace_word};
+ghost use Rattle.trace_words.specs.Kept.{is_kept_word};
+ghost use Rattle.trace_words.specs.Script.{Says, script_line_of, script_words, is_trace_word};
 
 use crate::act::{ScriptAct, parse_act};
+use crate::fault::TraceFault;
+use crate::fields::is_named;
 use crate::laws::acts_are_not_kept;
+use crate::line::{LONGEST_LINE, Line, parse_words, split_words};
 use std::alloc::Global;
-use trace_words::fields::is_named;
-use trace_words::{LONGEST_LINE, Line, TraceFault, parse_words, split_words};
 
 /// What a line of a script says.
 #[derive(Drop)]

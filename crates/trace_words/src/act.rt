@@ -1,16 +1,17 @@
 //! What simulated stations and phones do.
 
 ghost use Rattle.std.specs.Prelude.{◌≡◌, ◌⊎◌, [], ◌∷◌, map, Ok, Err};
-ghost use Rattle.sim_words.specs.Script.{radio_word, phone_word, read_act, read_station, station_of, read_up_act, read_raw, read_radio, read_phone};
+ghost use Rattle.trace_words.specs.Script.{radio_word, phone_word, read_act, read_station, station_of, read_up_act, read_raw, read_radio, read_phone};
 
-use crate::fields::{enb_ue_id, macro_id, tracking_area};
-use crate::values::MacroId;
+use crate::fault::TraceFault;
+use crate::fields::{imsi, is_named, octets, station};
+use crate::script_fields::{enb_ue_id, macro_id, tracking_area};
+use crate::script_values::MacroId;
+use crate::values::TraceOctets;
 use identity_slots::StationNumber;
 use nas_elements::Imsi;
 use s1ap_elements::EnbUeId;
 use std::alloc::Global;
-use trace_words::fields::{imsi, is_named, octets, station};
-use trace_words::{TraceFault, TraceOctets};
 
 /// What a station or a phone does.
 #[derive(Drop)]

@@ -10,11 +10,11 @@ use Rattle.trace_words.specs.declared.fault.TraceFault.{TraceFault}
 use Rattle.trace_words.specs.declared.fault.TraceFault.TheVariants.{UnknownWord, TooLong}
 use Rattle.trace_words.specs.Trace.{◌>>=◌, plmn_field, sized_of, label_field, rate_field, station_field, ticks_field, subscriber_field, octets_field, xres_field, read_mme, read_sub, read_vec, read_up, read_lost, read_in, read_tick, read_data, read_cancel, read_show, read_event, read_words, is_skipped, line_of, line_text}
 use Rattle.trace_words.specs.Lines.{WrittenIsRead}
-use Rattle.sim_words.specs.declared.act.ScriptAct.{ScriptAct}
-use Rattle.sim_words.specs.declared.line.ScriptLine.{ScriptLine}
-use Rattle.sim_words.specs.declared.line.ScriptLine.TheVariants.{Trace, Act}
-use Rattle.sim_words.specs.Kept.{is_kept_word, begins_kept, is_kept_text, is_kept_line, kept_in, kept_line}
-use Rattle.sim_words.specs.Script.{is_trace_word, begins_traced, read_act, script_words, script_line_of, Says, ScriptSays, ReadAlike, FirstWordTells, WrittenIsKept, CommentsAreNotKept}
+use Rattle.trace_words.specs.declared.act.ScriptAct.{ScriptAct}
+use Rattle.trace_words.specs.declared.script_line.ScriptLine.{ScriptLine}
+use Rattle.trace_words.specs.declared.script_line.ScriptLine.TheVariants.{Trace, Act}
+use Rattle.trace_words.specs.Kept.{is_kept_word, begins_kept, is_kept_text, is_kept_line, kept_in, kept_line}
+use Rattle.trace_words.specs.Script.{is_trace_word, begins_traced, read_act, script_words, script_line_of, Says, ScriptSays, ReadAlike, FirstWordTells, WrittenIsKept, CommentsAreNotKept}
 
 -- whatever line is read is kept, or none is
 abbrev KeptAs : Bool → Result Line TraceFault → Type 0
