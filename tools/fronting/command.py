@@ -90,7 +90,12 @@ def question(given):
     if given.word in OF_FILE:
         octets = runs.read_file(given.more[0])
         return b"give %d\n" % len(octets) + octets
-    return " ".join([given.word, *given.more]).encode() + b"\n"
+    return " ".join([given.word, *given.more]).encode() + (b"\ncounters\n" if wants_log(given) else b"\n")
+
+
+def wants_log(given):
+    """Whether the log's health is told below what is asked for: below the phones, but not in their JSON, which has an IMSI for each."""
+    return given.word == "phones" and not given.json
 
 
 def table(word, found):
@@ -105,6 +110,14 @@ def table(word, found):
     return "".join(versions.visible(line) + "\n" for line in lines)
 
 
+def log(found):
+    """The health of a log, by what is counted of each of its series."""
+    if not found:
+        return "no log"
+    return "log whole=%s segments_share=%s" % (all(one["whole"] for one in found.values()), max(
+        one["share"] for one in found.values()))
+
+
 def ask(given):
     """Asks a front that runs."""
     try:
@@ -113,7 +126,9 @@ def ask(given):
             asking.settimeout(limits.GIVING_SECONDS + limits.HOLD_SECONDS)
             try:
                 asking.sendall(octets)
-                answer = asking.makefile(encoding="utf-8", errors="replace", newline="\n").readline()
+                answers = asking.makefile(encoding="utf-8", errors="replace", newline="\n")
+                answer = answers.readline()
+                counters = answers.readline() if wants_log(given) else ""
             except OSError as fault:
                 raise runs.Fault("%s: %s" % (given.control, told(fault))) from None
         if not answer:
@@ -126,6 +141,8 @@ def ask(given):
     word, _, rest = answer.partition(" ")
     if word in OF_FRONT and not given.json:
         print(table(word, json.loads(rest)), end="")
+        if wants_log(given):
+            print(log(json.loads(counters.partition(" ")[2] or "{}").get("log")))
     else:
         print(versions.visible((rest if word in OF_FRONT else answer).removesuffix("\n")))
     return 0 if word.strip() in ("taken", "state", "tunnel", "given", "serves", *OF_FRONT) else 1
