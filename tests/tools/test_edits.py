@@ -103,6 +103,11 @@ no field `if-self-ne0` (nearest: .if-self-eq1, .self)
   the fields that can be named here are `before`, `self-1`, `if-self-eq1`, `self`, `args`
 ./proofs/reader/BitReader/align/Answers.antt:11:5: note: `rw` rewrote the goal (in `returns`)
 """
+BY_A_LONG_NAME = """\
+./proofs/reader/BitReader/align/Answers.antt:4:29: error: `returns-then-self-ne0`: `goal.returns-then-self-ne0`: module `Rattle.low.proofs.\
+reader.BitReader.align.Goals`
+  has no `returns-then-self-ne0` that can be named from here
+"""
 BY_TYPE = """\
 ./proofs/reader/BitReader/align/Answers.antt:6:6: error: `returns-then-self-ne0`: computed as far as they go, the two types differ only \
 where one has `Truncated`
@@ -164,6 +169,7 @@ class Fitting(unittest.TestCase):
     def test_first_check(self):
         """That answers name what isn't there is no refusal by the contract, whatever else stays open for it."""
         for said, is_by_contract in ((BY_NAME, False), (BY_NAME + OPEN_RETURNS, False), (BY_TYPE, True), (BY_NAME + BY_TYPE, True),
+                                     (BY_A_LONG_NAME, False), (BY_A_LONG_NAME + BY_TYPE, True),
                                      (OPEN_INVARIANT, True), (BY_NAME.replace("/align/", "/end/"), True)):
             self.assertEqual(verdicts.is_by_contract(said, ALIGN), is_by_contract, said)
 
@@ -188,6 +194,12 @@ class Fitting(unittest.TestCase):
         """What was said before a check broke off is no refusal."""
         for words in ([""], [OPEN_RETURNS], ["%sfn %s: %s" % (BY_NAME, ALIGN, NOT_PROVED), OPEN_INVARIANT]):
             self.assertIsNone(self.fitted(*words)[0], words)
+
+    def test_what_the_prover_cannot_take(self):
+        """A text that it can't take isn't refused by its contract."""
+        for said in ("no proof: it calls `low::one`, which is not proved", "not proved; a bug in rattle leaves only a proof by hand", "proved",
+                     "no holes", None):
+            self.assertFalse(verdicts.is_own_refusal(said), said)
 
     def test_verdicts(self):
         """Refused by an answer that fits, or by a goal of another kind than the answers that are left out; proved; or not told."""
