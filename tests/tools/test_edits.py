@@ -43,26 +43,37 @@ class Edits(unittest.TestCase):
         self.write("crates/low/src/lib.rt", "fn count() -> u64 { one + 1 }\n")
         self.assertEqual(records.changed(), ["low"])
 
+    def added(self):
+        return {name: [pathlib.Path(edit).name for edit in edits] for name, edits in records.added_since("HEAD").items()}
+
     def test_added(self):
-        """Of a crate with more edits than at the commit the new ones alone are left to try."""
+        """Of a crate with other edits than at the commit those alone are left to try that didn't stand there so."""
         self.write("crates/low/edits/second.edit", EDIT)
-        found = records.added_since("HEAD")
-        self.assertEqual({name: [pathlib.Path(edit).name for edit in edits] for name, edits in found.items()}, {"low": ["second.edit"]})
+        self.assertEqual(self.added(), {"low": ["second.edit"]})
+        self.write("crates/low/edits/first.edit", "# another\n" + EDIT)
+        self.assertEqual(self.added(), {"low": ["first.edit", "second.edit"]})
 
     def test_added_beside_another_change(self):
         """Where something else changed too, an edit more says nothing of those that were tried."""
-        for file, text in (("src/lib.rt", "fn count() -> u64 { one + 1 }\n"), ("specs/Lib.antt", "one : N\n"), ("edits/first.edit", EDIT + "# a\n")):
+        for file, text in (("src/lib.rt", "fn count() -> u64 { one + 1 }\n"), ("specs/Lib.antt", "one : N\n")):
             with self.subTest(file):
                 subprocess.run(["git", "checkout", "-q", "."], cwd=self.top, check=True)
                 self.write("crates/low/edits/second.edit", EDIT)
                 self.write("crates/low/" + file, text)
-                self.assertEqual(records.added_since("HEAD"), {})
+                self.assertEqual(self.added(), {})
                 (self.top / "crates" / "low" / file).unlink()
 
+    def test_added_to_what_was_not_tried(self):
+        """Nor does it where those of the commit weren't tried on its text."""
+        self.write("crates/low/src/lib.rt", "fn count() -> u64 { one + 1 }\n")
+        subprocess.run(["git", "-c", "user.name=a", "-c", "user.email=a@b", "commit", "-q", "-a", "-m", "another"], cwd=self.top, check=True)
+        self.write("crates/low/edits/second.edit", EDIT)
+        self.assertEqual(self.added(), {})
+
     def test_taken_away(self):
-        """Nor where an edit that was tried is gone."""
+        """An edit that is gone leaves the others as they were tried; under another name it is tried again."""
         (self.top / "crates" / "low" / "edits" / "first.edit").rename(self.top / "crates" / "low" / "edits" / "second.edit")
-        self.assertEqual(records.added_since("HEAD"), {})
+        self.assertEqual(self.added(), {"low": ["second.edit"]})
         self.assertEqual(records.changed(), ["low"])
 
     def test_renamed(self):
