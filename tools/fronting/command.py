@@ -75,7 +75,7 @@ def read_store(given):
             raise runs.Fault("%s goes with --store" % word)
         return
     for word, is_other in (("--anew", given.anew), ("--log-keys no", given.log_keys == NO), ("--sync no", given.sync == NO),
-                           ("--full-disk " + given.full_disk, given.full_disk != END)):
+                           ("--full-disk " + GO_ON, given.full_disk == GO_ON)):
         if is_other:
             raise runs.Fault("%s is of a log in files, and not in a store" % word)
     given.resume = False  # of the files; the log in the store is always gone on with

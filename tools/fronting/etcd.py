@@ -19,9 +19,11 @@ from tools.fronting import limits
 from tools.fronting.faults import Failed, NOT_YET, told
 
 HTTP, HTTPS, PORT = "http", "https", 2379
-AUTHENTICATE, RANGE, TXN = "/v3/auth/authenticate", "/v3/kv/range", "/v3/kv/txn"
+AUTHENTICATE, RANGE, TXN, METRICS = "/v3/auth/authenticate", "/v3/kv/range", "/v3/kv/txn", "/metrics"
 # Why etcd refuses something, by the numbers of gRPC: it would refuse it again, or it doesn't know who asks any more.
 REFUSALS, UNAUTHENTICATED = (3, 7), 16
+OLD_USERS, NO_ROOM = "revision of auth store is old", "space exceeded"  # users changed since; the quota is reached
+LATE, LONGEST_WORDS = "no answer within", 200
 WOULD_BLOCK = (BlockingIOError, ssl.SSLWantReadError, ssl.SSLWantWriteError)
 
 
@@ -51,6 +53,16 @@ class Fault(typing.NamedTuple):
     """Why a call wasn't answered: in words, and whether it would be refused again."""
     words: str
     is_refusal: bool = False
+
+    @property
+    def is_late(self):
+        """Whether there was none in time."""
+        return LATE in self.words
+
+    @property
+    def is_full(self):
+        """Whether the store has reached its quota: it is read, and not written until there is room."""
+        return NO_ROOM in self.words
 
 
 def b64(octets):
@@ -104,9 +116,10 @@ def found_address(endpoint):
 
 
 class Reply:
-    """An answer by HTTP/1.1, which comes piece by piece."""
+    """An answer by HTTP/1.1, which comes piece by piece: an object of JSON, or where it is well and so asked for, text."""
 
-    def __init__(self):
+    def __init__(self, is_text=False):
+        self.is_text = is_text
         self.received, self.at = bytearray(), 0  # and up to where it was read
         self.status, self.length, self.is_chunked, self.closes = None, 0, False, False
         self.body, self.is_whole, self.found = bytearray(), False, None  # the last is the object of JSON that it is
@@ -120,10 +133,21 @@ class Reply:
             elif len(self.received) - self.at >= self.length:
                 self.body, self.is_whole = self.received[self.at:self.at + self.length], True
         if self.is_whole:
-            self.found = json.loads(self.body)
+            self.found = self.read()
             if not isinstance(self.found, dict):
                 raise ValueError
         return self.is_whole
+
+    def read(self):
+        """What it says, once it is whole. What is refused before the members' own part is refused in plain words."""
+        if self.is_text and self.status == 200:
+            return {"header": None, "text": self.body.decode("latin-1")}
+        try:
+            return json.loads(self.body)
+        except ValueError:
+            if self.status == 200:
+                raise
+            return {"message": self.body[:LONGEST_WORDS].decode(errors="replace").strip()}
 
     def has_head(self):
         """Reads the head, once it is whole."""
@@ -160,7 +184,7 @@ class Reply:
     @property
     def is_of_nobody(self):
         """Whether it says that who asks isn't known any more."""
-        return self.status != 200 and self.found.get("code") == UNAUTHENTICATED
+        return self.status != 200 and (self.found.get("code") == UNAUTHENTICATED or OLD_USERS in str(self.found))
 
 
 class Etcd:
@@ -178,9 +202,10 @@ class Etcd:
         return self.access.endpoints[self.place]
 
     def call(self, path, body, then, seconds=limits.STORE_CALL_SECONDS):
-        """Asks: octets of JSON. Has `then` be called with the object that is answered and no fault, or with nothing and the fault."""
+        """Asks: octets of JSON, or nothing for text. Has `then` be called with the object that is answered and no fault, or with
+        nothing and the fault."""
         self.asked, self.then = (path, body), then
-        self.timer = self.loop.after(seconds, lambda: self.fail("no answer within %g s" % seconds))
+        self.timer = self.loop.after(seconds, lambda: self.fail("%s %g s" % (LATE, seconds)))
         self.send()
 
     # The connection.
@@ -190,9 +215,11 @@ class Etcd:
         path, body = self.asked
         if self.access.user is not None and self.token is None:
             path, body = AUTHENTICATE, json.dumps({"name": self.access.user, "password": self.access.password}).encode()
-        head = "POST %s HTTP/1.1\r\nHost: %s\r\nContent-Type: application/json\r\nContent-Length: %d\r\n%s\r\n" % (
-            path, self.endpoint.name.partition("://")[2], len(body), "Authorization: %s\r\n" % self.token if self.token else "")
-        self.unsent, self.reply = head.encode() + body, Reply()
+        is_text, body = body is None, body or b""
+        head = "%s %s HTTP/1.1\r\nHost: %s\r\nContent-Type: application/json\r\nContent-Length: %d\r\n%s\r\n" % (
+            "GET" if is_text else "POST", path, self.endpoint.name.partition("://")[2], len(body),
+            "Authorization: %s\r\n" % self.token if self.token else "")
+        self.unsent, self.reply = head.encode() + body, Reply(is_text)
         try:
             if self.socket is None:
                 self.connect()
@@ -294,9 +321,13 @@ class Etcd:
     def fail(self, words, is_refusal=False):
         """The call has a fault; the next one goes to the next member."""
         fault = Fault("%s: %s" % (self.endpoint, words), is_refusal)
+        self.go_to_next()
+        self.end(None, fault)
+
+    def go_to_next(self):
+        """The next call goes to the next member."""
         self.close()
         self.place = (self.place + 1) % len(self.access.endpoints)
-        self.end(None, fault)
 
     def end(self, found, fault):
         if self.then is not None:

@@ -17,7 +17,7 @@ from tools import runs
 
 from tools.fronting import bearers, limits
 from tools.fronting.challenges import AUTHENTICATION_REQUEST_DIGITS, challenged
-from tools.fronting.faults import BABBLES, Ended, Failed, LOG_FAILS, SILENT, told
+from tools.fronting.faults import BABBLES, Ended, Failed, LOG_FAILS, SILENT, Unheld, told
 from tools.fronting.journal import Batch
 from tools.fronting.meters import CONTEXT_REQUEST, DOWNLINK, ERROR_INDICATION, RESET_ACKNOWLEDGE, SETUP_RESPONSE
 from tools.fronting.mme import MARK_ANSWER
@@ -311,7 +311,10 @@ class Exchange:
             self.go_on_without(text)
             return
         now = time.monotonic()
-        if self.full_disk == END or self.held_since is not None and now - self.held_since > limits.FULL_SECONDS:
+        is_over = self.held_since is not None and now - self.held_since > limits.FULL_SECONDS
+        if self.full_disk == END or is_over or isinstance(fault, Unheld):
+            if self.journal is not None:
+                self.journal.give_way()
             raise Failed(text, LOG_FAILS)
         if self.held_since is None:
             self.held_since = now

@@ -1,6 +1,7 @@
 """The front: gives the MME what stations send, and them what it answers."""
 import functools
 import gc
+import itertools
 import os
 import select
 import signal
@@ -420,6 +421,8 @@ class Front:
         now = time.monotonic()
         if self.watchdog is not None:
             self.watchdog.look()
+        if self.standby is not None and self.exchange.held_since is not None:
+            self.census.answer()  # since nobody is told what doesn't stand in the log
         self.crowd.sweep(now)
         self.exchange.check_answers(now, self.settings.answer_seconds)
         self.exchange.look_after_log()
@@ -438,10 +441,17 @@ class Front:
         if self.exchange.journal is None or not self.exchange.journal.is_whole:
             raise runs.Fault("the log isn't whole since the start, so that nothing can be given")
         if self.standby is not None and len(text) > limits.LONGEST_STORED:
-            raise Failed("a store takes %d octets of lines at a time" % limits.LONGEST_STORED, WRONG)
+            raise runs.Fault("with the log in a store, %d octets of lines can be given at a time" % limits.LONGEST_STORED)
         lines = text.decode("latin-1").removesuffix("\n").split("\n")
         self.used.check_given(lines)
         self.giving = Giving(self, lines, reply)
+
+    def give_more(self, lines):
+        """Gives the lines of the subscribers' file that the log lacks: to a store one part after the other."""
+        sizes = itertools.accumulate(len(line) + 1 for line in lines)
+        end = len(lines) if self.standby is None else sum(size <= limits.LONGEST_STORED for size in sizes)
+        rest = lines[end:]
+        self.give("\n".join(lines[:end]).encode("latin-1"), lambda answer: self.give_more(rest) if rest else None)
 
     # The end.
 
@@ -515,7 +525,7 @@ class Front:
                 self.voice.say("ready", "ready: stations at %s port %d by %s; control at %s; log in %s" % (
                     *listener.getsockname()[:2], link.NAME, self.settings.control, self.settings.store or self.settings.log))
                 if more:
-                    self.give("\n".join(more).encode("latin-1"), lambda answer: None)
+                    self.give_more(more)
                 self.serve()
         except Failed as fault:
             failed = fault

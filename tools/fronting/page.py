@@ -31,7 +31,7 @@ OF_PHONE = "IMSI", "Address", "EMM", "ECM", "ESM", "Station", "Vectors left"
 OF_TUNNEL = "IMSI", "Leads to", "TEID", "Packets from it", "Octets", "Packets to it", "Octets", "Dropped", "Waiting"
 OF_GATEWAY = ("Address", "Network", "Contexts", "Stations", "Packets up", "Octets up", "Packets down", "Octets down", "Dropped",
               "Waiting")
-OF_STORE = "This front", "Epoch", "Its last turn", "The store's last turn", "Octets"
+OF_STORE = "This front", "Epoch", "Its last turn", "The store's last turn", "Octets of turns", "Of the store", "Of its quota"
 HELD = "The log can't be written: stations are refused and not heard until there is room."
 UNTOLD = "Reasons are missing here: %s. `tools/explain` finds them in the log."
 LATE = "%d lines are still to be read"
@@ -100,7 +100,8 @@ def of_stations(front, _):
 def of_store(front):
     """How far a front with its log in a store has come."""
     told = status.store(front)
-    rows = [["leads" if told["leads"] else "stands by", told["epoch"], told["turn"], told["last_turn"], told["octets"]]]
+    rows = [["leads" if told["leads"] else "stands by", told["epoch"], told["turn"], told["last_turn"], told["octets"],
+             told["store_octets"], told["store_quota"] or "not known"]]
     return ["<h2>Log</h2>", table(OF_STORE, rows), '<p class="note">In the store at %s.</p>' % shown(str(front.settings.store))]
 
 

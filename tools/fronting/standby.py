@@ -1,10 +1,12 @@
-"""A front beside a store, until it leads: it plays the turns of the log as they come. Then it takes no turn of another any more, but
-makes the next one itself, by which it leads.
+"""A front beside a store, until it leads: it plays the turns of the log as they come. Then it takes no turn of another any more,
+but makes the next one itself, by which it leads.
 
 Silence is counted from the first of the reads that found the same last turn, of which none failed. A leader's ticks are turns, so
 that one which serves is never silent; but nothing is lost if one that serves is taken to be gone.
 """
 import time
+
+from tools import runs
 
 from tools.fronting import limits, stored
 from tools.fronting.etcd import Etcd, TXN
@@ -12,6 +14,7 @@ from tools.fronting.faults import Failed, NOT_YET, WRONG
 from tools.fronting.journal import TIME, clock, octets_of
 from tools.fronting.provisioning import Head
 from tools.fronting.resuming import NoResume, note_stations, seconds_since
+from tools.fronting.room import Room
 
 LOG = "the store's log"
 
@@ -19,14 +22,15 @@ LOG = "the store's log"
 class Standby:
     """Follows the log in the store. `number` is the last turn that was played, `turn` its lines, `size` the octets of all up to it,
     `last` the last one that was read of, and `given` the last that gave lines of provisioning; `gave` are all of these, and `more`
-    those of the subscribers' file that the log lacks. `head` is what the log says that it begins with, and `up` the stations that
-    are connected to who leads."""
+    those of the subscribers' file that the log lacks. `head` is what the log says that it begins with, `up` the stations that are
+    connected to who leads, and `came` when the last turn came, where this front had played all turns before it."""
 
     def __init__(self, front, access):
         self.front, self.etcd, self.scheme = front, Etcd(front.loop, access), stored.Scheme(front.head.mme)
         self.last, self.number, self.given, self.size = None, 0, 0, 0
         self.up, self.gave, self.more, self.fault, self.turn, self.head = set(), [], [], None, b"", b""
-        self.since = time.monotonic()  # since when all reads found the same last turn
+        self.since, self.came = time.monotonic(), None  # the first: since when all reads found the same last turn
+        self.room = None  # of the store, once it was there
         self.is_full, self.most = True, limits.TURNS_READ  # whether there is more than was read; turns that are read at once
 
     # Reading.
@@ -51,11 +55,11 @@ class Standby:
         if fault.is_refusal:
             raise Failed("the store refuses: " + fault.words, WRONG)
         before, self.most = self.most, stored.fewer(self.most, fault)
-        if self.most < before:
+        if self.most < before and not fault.is_late:
             return
         if self.fault is None:
             self.front.voice.say("no_store", "the store isn't there: %s" % fault.words)
-        self.fault, self.is_full = fault, True
+        self.fault = fault
         self.rest(limits.STORE_REST)
         self.since = time.monotonic()
 
@@ -70,7 +74,9 @@ class Standby:
     def note_last(self, last):
         """Notes the last turn that was read of."""
         if last != self.last:
+            has_followed = self.last is not None and self.number == self.last.number
             self.last, self.since = last, time.monotonic()
+            self.came = self.since if has_followed else None
 
     # Following.
 
@@ -88,6 +94,7 @@ class Standby:
         """An MME with what the log begins with and what was given since; it is to play all turns."""
         head, last, given, _ = news
         self.note_last(stored.last_in(last))
+        self.room = self.room or Room(Etcd(self.front.loop, self.etcd.access, self.etcd.addresses), self.front.voice)
         self.head = b"".join(stored.values_of(head))
         self.given = max([self.given, *stored.numbers_of(given)])
         self.gave += b"".join(stored.values_of(given)).decode("latin-1").splitlines()
@@ -127,7 +134,7 @@ class Standby:
                 self.check_used()
             if self.may_lead() and self.lead():
                 return self.more
-            self.rest(limits.READING_SECONDS)
+            self.rest(limits.READING_SOON if stored.numbers_of(news[3]) else limits.READING_SECONDS)
         return ()
 
     def check_log(self, head, last):
@@ -146,12 +153,14 @@ class Standby:
     def play(self, turns):
         """Gives the MME turns, which come right after those that it was given."""
         numbers = stored.numbers_of(turns)
-        if numbers != list(range(self.number + 1, self.number + 1 + len(numbers))) or not numbers and self.number < self.last.number:
+        owed = list(range(self.number + 1, self.number + 1 + len(numbers)))
+        if numbers != owed or not numbers and self.number < self.last.number:
             raise Failed("%s isn't whole after turn %d" % (LOG, self.number), WRONG)
         for number, octets in zip(numbers, stored.values_of(turns)):
             if not self.front.is_over:
                 self.play_turn(number, octets)
         self.is_full = self.number < self.last.number
+        self.most = min(2 * self.most, limits.TURNS_READ)
         self.front.wait()
 
     def play_turn(self, number, octets):
@@ -180,9 +189,9 @@ class Standby:
         are lost. Whether this front leads."""
         front, told, stations = self.front, [], len(self.up)
         after = stored.Last(self.last.epoch + 1, self.number + 1, stored.drawn())
-        seconds, turn = seconds_since(self.turn) or 0, [TIME % clock(), "# leads: epoch %d" % after.epoch]
-        turn += ["tick %d" % seconds] if seconds else []
-        turn = octets_of(turn + ["lost %d" % number for number in sorted(self.up)])
+        seconds = self.seconds()
+        turn = octets_of([TIME % clock(), "# leads: epoch %d" % after.epoch, *(["tick %d" % seconds] if seconds else []),
+                          *("lost %d" % number for number in sorted(self.up))])
         puts = self.scheme.turn(after.number, turn)
         if self.last == stored.NOTHING:
             puts.append(self.scheme.put(self.scheme.key("head"), stored.head_of(front.head.facts)))
@@ -203,5 +212,14 @@ class Standby:
         front.leads(journal, stations, seconds)
         return True
 
+    def seconds(self):
+        """How long ago the last turn was: by this front's own clock where it came while this front followed, else by the time of
+        day that the turn has."""
+        if self.came is not None:
+            return min(int(time.monotonic() - self.came), runs.LONGEST_TICK)
+        return seconds_since(self.turn) or 0
+
     def close(self):
+        if self.room is not None:
+            self.room.close()
         self.etcd.close()

@@ -7,6 +7,7 @@ from tools.fronting.meters import OTHER, name_of
 
 PIECE = 500  # phones that are told of at a time
 ALARMS = "vectors", "what happened", "what counts", "log"  # what there are alarms of
+STORE = "store"  # and where the log is in a store
 
 
 def stations(front):
@@ -76,7 +77,8 @@ def store(front):
     journal, standby = front.exchange.journal, front.standby
     last, turn = (journal.last, journal.committed) if journal else (standby.last, standby.number)
     return {"leads": journal is not None, "epoch": last.epoch, "turn": turn, "last_turn": last.number,
-            "octets": journal.size if journal else standby.size, "answers": standby.fault is None}
+            "octets": journal.size if journal else standby.size, "answers": standby.fault is None,
+            "store_octets": standby.room.size, "store_quota": standby.room.quota}
 
 
 def counters(front):
@@ -110,6 +112,8 @@ def alarms(front):
                 front.soundness.used(series)[0], series.most, series.what)
         if not series.is_whole:
             found[series.what] = "The log of %s isn't whole since the start." % series.what
+    if front.standby is not None and front.standby.room.is_low:
+        found[STORE] = "T%s." % front.standby.room.words()[1:]
     if front.stands_by and front.standby.fault is not None:
         found["log"] = "The store doesn't answer: %s." % front.standby.fault.words
     elif front.exchange.journal is None and front.standby is None:

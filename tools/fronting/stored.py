@@ -5,11 +5,24 @@
     given/N     the lines sub and vec that were given with turn N
     head        the version, how many lines of provisioning the log was begun with, their digest, and an id of the log
 
-Whoever writes a turn compares `last` with what it knows, in one transaction that also writes the new `last`. So each turn is
-written once, right after the one before it, by the one that leads. To take the lead is such a turn too, under the next epoch. Where it
-isn't known whether a transaction was done, `last` is read, by a read that is linearizable, and then the identical octets are sent
-again. Nothing rests on clocks.
+Whoever writes a turn compares `last` with what it knows, in one transaction that also writes the new `last`. To take the lead is
+such a turn too, under the next epoch and an id that nobody drew before. Where it isn't known whether a transaction was done, `last`
+is read, by a read that is linearizable: the turn's own value says that it stands; the value before, that the identical octets are
+to be sent again; any other, that another front leads.
+
+Why nothing is answered twice, or under a count that was used:
+  - No value of `last` comes twice, since its number rises by one. So each turn is written by one transaction, right after the turn
+    before it, and a request that comes late does nothing.
+  - Only the front that drew an id writes a value with it. So whoever is told that its transaction was done, or reads its own value,
+    knows that its own octets stand there: it sent no others under that number.
+  - What a turn is answered is held until then. So all that ever leaves a front answers turns of the chain.
+  - Whoever takes the lead has played the whole chain, as the comparison says that nothing else stood at that moment. So its MME is
+    a function of the chain, of which it is proved that no count is used twice.
+  - The answers that a standby plays go to nobody. One that led before may still send those that it owes to turns of the chain,
+    which nobody else sends: their counts are spent in the chain.
+Nothing here has a clock: ticks and silence say when somebody tries to lead, and not what stands.
 """
+import collections
 import base64
 import hashlib
 import json
@@ -22,7 +35,7 @@ from tools import runs, versions
 
 from tools.fronting import limits
 from tools.fronting.etcd import Etcd, RANGE, TXN, b64
-from tools.fronting.faults import BABBLES, Failed, LOG_FAILS, NOT_YET, WRONG
+from tools.fronting.faults import BABBLES, Failed, LOG_FAILS, NOT_YET, Unheld, WRONG
 from tools.fronting.journal import TIME, clock, octets_of
 from tools.fronting.turns import Turns
 
@@ -117,19 +130,37 @@ def last_in(response):
         raise Failed("the store's log is damaged: what is said to be its last turn can't be read", BABBLES) from None
 
 
+def pieces_of(octets, first):
+    """Whole lines of a trace as turns of which none is too large, each below the line that comes first."""
+    at = 0
+    while True:
+        end = len(octets)
+        if end - at > limits.STORED_OCTETS:
+            end = (octets.rfind(b"\n", at, at + limits.STORED_OCTETS) + 1) or octets.find(b"\n", at) + 1
+        yield first + octets[at:end]
+        at = end
+        if at == len(octets):
+            return
+
+
 def fewer(most, fault):
-    """How many turns to read at once after a fault."""
-    return max(1, most // 4) if TOO_MUCH in fault.words else most
+    """How many turns to read at once after a fault, which may be of too many."""
+    return max(1, most // 4) if TOO_MUCH in fault.words or fault.is_late else most
 
 
 class Step:
-    """From one last turn to the next: sent to the store until it is known whether it stands. `then` is called with that, and `fault`
-    is why it isn't known yet."""
+    """From one last turn to the next: sent to the store until it is known whether it stands. `then` is called with that, and
+    `fault` is why it isn't known yet."""
 
     def __init__(self, etcd, scheme, before, after, puts, then):
         self.etcd, self.scheme, self.before, self.after, self.then = etcd, scheme, before, after, then
         self.body, self.fault, self.is_over = scheme.step(before, after, puts), None, False
         self.send()
+
+    @property
+    def takes_lead(self):
+        """Whether it takes the lead: where there is room again, who leads comes first."""
+        return self.before.leader != self.after.leader
 
     def send(self):
         self.etcd.call(TXN, self.body, self.is_answered)
@@ -146,8 +177,9 @@ class Step:
         """It isn't known whether it stands: asks which turn is the last, in a while."""
         self.fault = fault
         if fault.is_refusal:
+            self.is_over = True
             raise Failed("the store refuses a turn: " + fault.words, LOG_FAILS)
-        self.etcd.loop.after(limits.STORE_REST, self.ask)
+        self.etcd.loop.after(limits.FULL_REST if fault.is_full and self.takes_lead else limits.STORE_REST, self.ask)
 
     def ask(self):
         if not self.is_over:
@@ -181,31 +213,41 @@ class StoreJournal(Turns):
         self.etcd, self.scheme, self.last, self.head, self.form = etcd, scheme, last, head, form
         self.turn = self.committed = last.number
         self.step, self.since = None, 0.0  # of the turn under way, and since when it is
+        self.pieces = collections.deque()  # the turns that follow it
         self.given, self.size = b"", 0  # lines of provisioning that the next turn gives; octets of all turns
 
     @property
     def is_under_way(self):
         """Whether a turn is on its way, or what stands beside the log is being synced."""
-        return not self.is_broken and (self.turn != self.committed or self.is_noting)
+        return not self.is_broken and (self.turn != self.committed and not self.step.is_over or self.is_noting)
 
     def add(self, batches):
-        """Sends a turn, which the MME is about to be given."""
-        now, self.turn = clock(), self.turn + 1
+        """Sends what the MME is about to be given: a turn, or several where it is too much for one."""
+        now = clock()
+        self.pieces.extend(pieces_of(b"".join(batch.text() for batch in batches), octets_of([TIME % now])))
+        self.turn += len(self.pieces)
         for batch in batches:
             batch.time, batch.turn = now, self.turn
-        text = octets_of([TIME % now]) + b"".join(batch.text() for batch in batches)
+        self.send()
+
+    def send(self):
+        """Sends the next turn."""
+        text, after = self.pieces.popleft(), self.last._replace(number=self.committed + 1)
         given, self.given, self.size = self.given, b"", self.size + len(text)
-        self.since, after = time.monotonic(), self.last._replace(number=self.turn)
-        self.step = Step(self.etcd, self.scheme, self.last, after, self.scheme.turn(self.turn, text, given), self.has_come)
+        self.since = time.monotonic()
+        self.step = Step(self.etcd, self.scheme, self.last, after, self.scheme.turn(after.number, text, given), self.has_come)
 
     def has_come(self, stands):
         """The turn stands, or another front leads."""
         if not stands:
             self.is_broken = True
             raise Failed("another front leads: turn %d of epoch %d isn't taken, and nothing of it is answered"
-                         % (self.turn, self.last.epoch), NOT_YET)
-        self.last, self.committed = self.step.after, self.turn
-        self.tell(self.fault_of(self.write_beside))
+                         % (self.step.after.number, self.last.epoch), NOT_YET)
+        self.last, self.committed = self.step.after, self.step.after.number
+        if self.pieces:
+            self.send()
+        else:
+            self.tell(self.fault_of(self.write_beside))
 
     def write_beside(self):
         """Writes what those beside know, once all of it is of turns that stand: so they never know more than the log."""
@@ -213,11 +255,20 @@ class StoreJournal(Turns):
             super().write_beside()
 
     def care(self, now):
-        """Ends the front where the store takes no turn."""
-        if self.turn != self.committed and now - self.since > limits.UNCOMMITTED_SECONDS:
-            fault = self.step.fault
-            raise Failed("the store has taken no turn for %g s%s" % (
+        """Ends the front where the store takes no turn, since another one may lead; nobody does where it is full."""
+        if self.turn == self.committed:
+            return
+        fault = self.step.fault
+        if fault is not None and fault.is_full:
+            self.since = now
+            raise Failed("the store is full: " + fault.words, LOG_FAILS)
+        if now - self.since > limits.UNCOMMITTED_SECONDS:
+            raise Unheld("the store has taken no turn for %g s%s" % (
                 limits.UNCOMMITTED_SECONDS, ": " + fault.words if fault else ""), LOG_FAILS)
+
+    def give_way(self):
+        """What is under way isn't waited for."""
+        self.is_broken = True
 
     # Giving.
 

@@ -87,5 +87,8 @@ class Turns:
         """The segments that went since it was asked last, each with its series."""
         return []
 
+    def give_way(self):
+        """The run ends, since no turn can be committed."""
+
     def end(self, now):
         """The run ends in order, where no turn is under way."""
