@@ -7,6 +7,7 @@ import json
 import os
 import pathlib
 import pwd
+import random
 import shutil
 import signal
 import socket
@@ -20,6 +21,7 @@ from tools.fronting.stored import Last
 
 PROGRAM = shutil.which("etcd")
 MISSING = "no etcd (Debian's etcd-server and etcd-client)"
+MEMBERS, PORTS = 3, (20000, 32000)
 USER = "nobody"
 BEGIN_SECONDS = 60
 PREFIX = "/soizkadur/001.01.8001.01/"  # of the MME that the tests' heads have
@@ -27,8 +29,11 @@ END = PREFIX[:-1] + "0"  # what comes after all that begins so
 
 
 def free_port():
-    with socket.create_server(("127.0.0.1", 0)) as listener:
-        return listener.getsockname()[1]
+    """A port that nobody has, and no connection is given by itself, since a member that comes back has to find it free."""
+    while True:
+        port = random.SystemRandom().randrange(*PORTS)
+        with contextlib.suppress(OSError), socket.create_server(("127.0.0.1", port), reuse_port=False):
+            return port
 
 
 def without_rights():
@@ -43,13 +48,16 @@ class Members:
     """Members of a store, by their places from 0, until `after` ends; `words` are more of etcd's own, and `files` the file of its
     certificate and key, and that of who signed it."""
 
-    def __init__(self, after, words=(), files=None, count=3):
+    def __init__(self, after, words=(), files=None, count=MEMBERS):
         self.folder = pathlib.Path(after.enter_context(tempfile.TemporaryDirectory()))
         rights = without_rights()
         if rights:
             os.chown(self.folder, rights["user"], rights["group"])
         self.kind, self.files, self.words = "https" if files else "http", files, list(words)
-        self.clients, self.peers = ([free_port() for _ in range(count)] for _ in range(2))
+        ports = set()
+        while len(ports) < 2 * count:
+            ports.add(free_port())
+        self.clients, self.peers = sorted(ports)[:count], sorted(ports)[count:]
         self.processes, self.paused = [None] * count, set()
         after.callback(self.close)
         for place in range(count):
@@ -141,9 +149,9 @@ class Members:
     def said(self):
         return "\n".join(path.read_text(errors="replace")[-1000:] for path in sorted(self.folder.glob("*.log")))
 
-    def values(self, kind):
-        """The values below the MME's keys of a kind, by number."""
-        found, start = {}, b64((PREFIX + kind).encode())
+    def values(self, kind, after=0):
+        """The values below the MME's keys of a kind, by number, after one."""
+        found, start = {}, b64(("%s%s/%016x" % (PREFIX, kind, after + 1)).encode())
         while True:
             page = self.ask("/v3/kv/range", {"key": start, "range_end": b64((PREFIX + kind + "0").encode()), "limit": 100})
             for kv in page.get("kvs", ()):
@@ -163,6 +171,10 @@ class Members:
         """The last turn, or nothing."""
         found = self.ask("/v3/kv/range", {"key": b64((PREFIX + "last").encode())}).get("kvs")
         return Last.read(base64.b64decode(found[0]["value"])) if found else None
+
+    def octets(self):
+        """How large the largest member's file is."""
+        return max(int(self.asked(port, "/v3/maintenance/status", {})["dbSize"]) for port in self.clients)
 
     def forget(self):
         """Removes all that there is of the MME."""

@@ -88,12 +88,16 @@ class Front:
                 return found
         raise SystemExit("front.py: the front doesn't begin")
 
-    def turn(self):
-        """The last turn that it has committed or played, of a log in a store."""
+    def counters(self):
+        """What it counts."""
         with socket.socket(socket.AF_UNIX) as asking:
             asking.connect(str(self.control))
             asking.sendall(b"counters\n")
-            return json.loads(asking.makefile().readline().partition(" ")[2])["store"]["turn"]
+            return json.loads(asking.makefile().readline().partition(" ")[2])
+
+    def turn(self):
+        """The last turn that it has committed or played, of a log in a store."""
+        return self.counters()["store"]["turn"]
 
     def processes(self):
         """The front's process, and its MME's where that is another."""
@@ -345,15 +349,19 @@ def standby(given):
             standby_of(given, way)
 
 
-def standby_of(given, way):
-    leader = begun(given, way, head(), *AT_WILL)
-    other = Front(given.program, head(), *AT_WILL, *way.words, "--standby", folder=given.folder)
+def loaded(given, port):
+    """A process that sends messages until it is killed."""
     child = os.fork()
     if child == 0:
         try:
-            Load(leader.port, STORED_STATIONS).paced(given.rate or STORED_RATE, given.seconds + 60)
+            Load(port, STORED_STATIONS).paced(given.rate or STORED_RATE, given.seconds + 60)
         finally:
             os._exit(0)
+    return child
+
+
+def lags_of(given, leader, other):
+    """How long after the leader the other front is where that was, each time."""
     lags, end = [], time.perf_counter() + given.seconds
     while time.perf_counter() < end:
         turn, begin = leader.turn(), time.perf_counter()
@@ -361,20 +369,37 @@ def standby_of(given, way):
             pass
         lags.append(time.perf_counter() - begin)
         time.sleep(given.seconds / LAGS)
+    return lags
+
+
+def standby_of(given, way):
+    before = given.members.octets()
+    leader = begun(given, way, head(), *AT_WILL)
+    other = Front(given.program, head(), *AT_WILL, *way.words, "--standby", folder=given.folder)
+    child = loaded(given, leader.port)
+    lags, counters, octets = lags_of(given, leader, other), leader.counters(), given.members.octets() - before
     leader.process.kill()
     begin = time.perf_counter()
     load, times = Load(other.is_ready(), 1), []
     load.stations[0].send(1, begin)
     while not times:
         load.stations[0].receive(times)
-    print("at %d messages a second the one that stands by was within %.1f ms of the leader half the time and within %.1f at the most; "
-          "it answered %.2f s after the leader was killed" % (
+    turns, messages = other.turn(), sum(counters["messages_in"].values())
+    begin = time.perf_counter()
+    third = Front(given.program, head(), *AT_WILL, *way.words, "--standby", folder=given.folder)
+    while third.turn() < turns:
+        time.sleep(0.01)
+    playing = time.perf_counter() - begin
+    print("at %d messages a second the one that stands by was within %.1f ms of the leader half the time and within %.1f at the "
+          "most; it answered %.2f s after the leader was killed" % (
               given.rate or STORED_RATE, share(lags, 0.5), share(lags, 1), times[0]))
+    print("%d messages in %d turns took %d octets of the store, %.0f a message; a front that began played them in %.1f s" % (
+        messages, counters["store"]["turn"], octets, octets / messages, playing))
     os.kill(child, 9)
     os.waitpid(child, 0)
     load.close()
-    leader.close()
-    other.close()
+    for front in (leader, other, third):
+        front.close()
 
 
 def main():
