@@ -1,11 +1,13 @@
-"""tools/front with its log in etcd: what its client makes of answers, turns that are held until they stand, and fronts with a stand-in
-for the MME, whose store has three members."""
+"""tools/front with its log in etcd: what its client makes of answers, turns that are held until they stand, and fronts with a
+stand-in for the MME, whose store has three members."""
 import contextlib
 import http.client
 import json
+import os
 import pathlib
 import random
 import re
+import shlex
 import shutil
 import signal
 import subprocess
@@ -16,12 +18,12 @@ import types
 import unittest
 import unittest.mock
 
-from bench.etcds import MISSING, PROGRAM, Cutter, Members, b64, free_port
+from bench.etcds import MISSING, PROGRAM, Cutter, Members, b64, free_port, without_rights
 from tests.tools import tools
 from tests.tools.fronted import HEAD, IMSI, PATIENCE, REMEMBERED, STAND_IN, Connected, Running, said
 from tests.tools.test_front_syncing import DOWN, MARK, Notes, OTHER_DOWN, Receiver
 from tools import versions
-from tools.fronting import etcd, exchange, limits, stored
+from tools.fronting import etcd, exchange, limits, room, stored
 from tools.fronting.faults import LOG_FAILS, NOT_YET, SILENT, WRONG, Failed
 from tools.fronting.keys import Whole
 from tools.fronting.loop import Loop
@@ -38,8 +40,8 @@ GOES_ON = rb"the run in the store goes on"
 class Answers(unittest.TestCase):
     """What is read of an answer, however it is cut into pieces."""
 
-    def read(self, octets, size):
-        reply, is_whole = etcd.Reply(), False
+    def read(self, octets, size, is_text=False):
+        reply, is_whole = etcd.Reply(is_text), False
         for at in range(0, len(octets), size):
             is_whole = reply.take(octets[at:at + size])
         return reply if is_whole else None
@@ -61,10 +63,43 @@ class Answers(unittest.TestCase):
             text = json.dumps(body).encode()
             reply = self.read(b"HTTP/1.1 %d No\r\nContent-Length: %d\r\n\r\n" % (status, len(text)) + text, 9)
             self.assertEqual(reply.fault, fault)
+        text = b"CommonName of client will be ignored\n"
+        reply = self.read(b"HTTP/1.1 400 No\r\nContent-Length: %d\r\n\r\n" % len(text) + text, 9)
+        self.assertEqual(reply.fault, ("CommonName of client will be ignored", False))
+        for code, words, is_of_nobody in ((16, "invalid auth token", True), (3, "revision of auth store is old", True),
+                                          (3, "", False)):
+            text = json.dumps({"error": "etcdserver: " + words, "code": code}).encode()
+            reply = self.read(b"HTTP/1.1 400 No\r\nContent-Length: %d\r\n\r\n" % len(text) + text, 9)
+            self.assertEqual(reply.is_of_nobody, is_of_nobody)
         for octets in (b"HTTP/1.1 200 OK\r\nContent-Length: 2\r\n\r\n[]", b"HTTP/1.1 200 OK\r\nContent-Length: 1\r\n\r\nx",
                        b"no\r\n\r\n"):
             with self.assertRaises((ValueError, IndexError)):
                 self.read(octets, 100)
+
+
+    def test_text(self):
+        """The metrics are text; a fault isn't."""
+        text = b"etcd_mvcc_db_total_size_in_bytes 24576\n# etcd\netcd_server_quota_backend_bytes 2.147483648e+09\n"
+        found = self.read(b"HTTP/1.1 200 OK\r\nContent-Length: %d\r\n\r\n" % len(text) + text, 9, True).found["text"]
+        self.assertEqual([room.number_in(pattern, found) for pattern in (room.SIZE, room.QUOTA)], [24576, 2 << 30])
+        self.assertEqual(room.number_in(room.QUOTA, ""), 0)
+        reply = self.read(b"HTTP/1.1 404 No\r\nContent-Length: 2\r\n\r\n{}", 9, True)
+        self.assertEqual(reply.fault, ("status 404", False))
+
+
+class Pieces(unittest.TestCase):
+    """What is too much for one turn becomes several, of whole lines."""
+
+    def test_pieces(self):
+        lines = [b"%d %s\n" % (number, b"x" * (number % 7)) for number in range(300)]
+        for most in (1, 9, 50, 1 << 20):
+            with unittest.mock.patch.object(limits, "STORED_OCTETS", most):
+                found = list(stored.pieces_of(b"".join(lines), b"# time\n"))
+            self.assertTrue(all(piece.startswith(b"# time\n") and piece.endswith(b"\n") for piece in found))
+            pieces = [piece.removeprefix(b"# time\n") for piece in found]
+            self.assertEqual(b"".join(pieces), b"".join(lines))
+            self.assertLessEqual(max(map(len, pieces)), max(most, max(map(len, lines))))
+        self.assertEqual(list(stored.pieces_of(b"", b"# time\n")), [b"# time\n"])
 
 
 class Words(tools.InFolder):
@@ -86,7 +121,7 @@ class Words(tools.InFolder):
                             ((*store, "--resume", "--anew"), "--anew is of a log in files"),
                             ((*store, "--log-keys", "no"), "--log-keys no is of a log in files"),
                             ((*store, "--sync", "no"), "--sync no is of a log in files"),
-                            ((*store, "--full-disk", "go-on"), "--full-disk go-on is of a log in files")):
+                            ((*store, "--full-disk", "go-on"), "--full-disk go-on is of a log in files, and not in a store")):
             with self.subTest(words=words):
                 status, text = self.ends(*words)
                 self.assertEqual(status, WRONG)
@@ -203,13 +238,13 @@ class Chain(unittest.TestCase):
         cutters = [Cutter(self.enterContext(contextlib.ExitStack()), port, lambda request: chance.choice(
             (Cutter.WHOLE, Cutter.WHOLE, Cutter.LOST, Cutter.UNANSWERED))) for port in self.members.clients]
         leader = Leader(self, self.members.urls([cutter.port for cutter in cutters]))
-        for number in range(60):
+        for number in range(30):
             leader.turn("in 0 %02x" % number)
             leader.exchange.hear(DOWN + MARK)
             leader.until(lambda: leader.journal.takes)
-        self.assertEqual(self.stands(), ["in 0 %02x" % number for number in range(60)])
-        self.assertEqual(len(leader.sent), 60)
-        self.assertGreater(sum(cutter.count for cutter in cutters), 20)
+        self.assertEqual(self.stands(), ["in 0 %02x" % number for number in range(30)])
+        self.assertEqual(len(leader.sent), 30)
+        self.assertGreater(sum(cutter.count for cutter in cutters), 10)
 
     def test_lead_whose_answer_is_lost(self):
         """Who took the lead and isn't told so finds it out; who didn't, too."""
@@ -247,7 +282,7 @@ class Chain(unittest.TestCase):
         self.assertEqual([line for line in told.splitlines() if line and not line.startswith("#")], ["up 0", "in 0 aa"])
 
     def test_no_majority(self):
-        """While two members are gone nothing is answered; a leader ends after a while; what it sent may stand when they are back."""
+        """While two members are gone nothing is answered; a leader ends after a while; what it sent may stand once they come."""
         leader = Leader(self, self.members.urls())
         for place in (0, 1):
             self.members.pause(place)
@@ -263,6 +298,22 @@ class Chain(unittest.TestCase):
             self.members.wake(place)
         leader.until(lambda: leader.sent)
         self.assertEqual(self.stands(), ["in 0 aa"])
+
+    def test_much(self):
+        """What is too much for one transaction is several turns, and what they answer goes out once the last of them stands."""
+        leader = Leader(self, self.members.urls())
+        lines = ["in 0 " + "%02x" % number * 19000 for number in range(60)]
+        for line in lines:
+            leader.exchange.put(line, 0)
+        leader.exchange.flush()
+        self.assertEqual(b"".join(leader.given).count(b"in 0 "), 60)
+        leader.exchange.hear(DOWN + MARK)
+        leader.until(lambda: leader.journal.committed > 3)
+        self.assertEqual((leader.sent, leader.journal.takes), ([], False))
+        leader.until(lambda: leader.journal.takes)
+        self.assertEqual((self.stands(), len(leader.sent)), (lines, 1))
+        self.assertEqual(self.members.last().number, leader.journal.turn)
+        self.assertGreater(leader.journal.turn, 8)
 
     def test_too_large(self):
         """A turn that the store would never take ends the front at once."""
@@ -294,7 +345,9 @@ class Stored(Running):
 
     def store(self):
         """What it says of its store."""
-        return json.loads(re.search("^store: (.*)$", self.asks("counters"), re.M)[1])
+        found = re.search("^store: (.*)$", self.asks("counters"), re.M)
+        assert found, self.said()
+        return json.loads(found[1])
 
     def leads(self, seconds=PATIENCE):
         """Waits until it leads."""
@@ -318,6 +371,13 @@ class StandingBy(Stored):
         super().__init__(test, members, "--standby", *words, **named)
 
 
+class StandingByFor(StandingBy):
+    """One by all of its words on the store."""
+
+    def __init__(self, test, words):
+        Running.__init__(self, test, "--second", "0.1", *words, front=HURRIED)
+
+
 @unittest.skipUnless(PROGRAM, MISSING)
 class Fronts(unittest.TestCase):
     """Fronts with a stand-in for the MME, which remembers how many messages it heard."""
@@ -331,7 +391,7 @@ class Fronts(unittest.TestCase):
 
     def test_killed(self):
         """The standby has played all that was answered, and leads after the silence; stations connect only then."""
-        leader, standby = Stored(self, self.members), StandingBy(self, self.members)
+        leader, standby = Stored(self, self.members), StandingBy(self, self.members, front=(*HURRIED, "ahead"))
         station = leader.station()
         for _ in range(5):
             self.assertEqual(station.says(REMEMBERED), REMEMBERED)
@@ -342,7 +402,8 @@ class Fronts(unittest.TestCase):
         self.assertIn("HEARD-5", standby.asks("phones"))
         leader.process.kill()
         standby.leads()
-        self.assertRegex(standby.told, GOES_ON + rb": 1 station was lost, \d+ s passed")
+        passed = re.search(GOES_ON + rb": 1 station was lost, (\d+) s passed", standby.told)
+        self.assertLess(int(passed[1]), 60)  # though the machines' times of day are an hour apart
         self.assertEqual(standby.remembers(), 5)
         self.assertEqual(standby.station().says(REMEMBERED), REMEMBERED)
         self.assertEqual((standby.remembers(), self.members.last().epoch, standby.asks("health")), (6, 2, "serves\n"))
@@ -369,7 +430,7 @@ class Fronts(unittest.TestCase):
         """Without --standby a front takes the lead from one that serves; a standby doesn't."""
         leader, standby = Stored(self, self.members), StandingBy(self, self.members)
         station = leader.station()
-        time.sleep(3)
+        time.sleep(1.5)
         self.assertFalse(standby.store()["leads"])
         other = Stored(self, self.members)
         self.assertEqual(leader.ended()[0], NOT_YET)
@@ -382,7 +443,7 @@ class Fronts(unittest.TestCase):
         """Of two that stand by one begins the log."""
         one, two = StandingBy(self, self.members), StandingBy(self, self.members)
         one.until(lambda: one.store()["leads"] or two.store()["leads"])
-        time.sleep(1)
+        time.sleep(0.3)
         self.assertEqual(one.store()["leads"] + two.store()["leads"], 1)
 
     def test_members(self):
@@ -407,7 +468,7 @@ class Fronts(unittest.TestCase):
 
     def test_no_members(self):
         """For longer: the leader ends with its status, no standby leads, and nothing that was answered is lost."""
-        leader, standby = Stored(self, self.members, front=(CHANGED, "hurried")), StandingBy(self, self.members)
+        leader, standby = Stored(self, self.members, front=(CHANGED, "hurried", "brief")), StandingBy(self, self.members)
         station = leader.station()
         for _ in range(3):
             self.assertEqual(station.says(REMEMBERED), REMEMBERED)
@@ -417,7 +478,7 @@ class Fronts(unittest.TestCase):
         station.send(REMEMBERED)
         status, told = leader.ended()
         self.assertEqual((status, station.got, station.has_ended()), (LOG_FAILS, b"", True))
-        self.assertIn("the store has taken no turn for 5 s", told)
+        self.assertIn("the store has taken no turn for 2 s", told)
         self.assertIn(b"the store isn't there", standby.said())
         self.assertNotRegex(standby.told, GOES_ON)
         for place in (0, 1):
@@ -475,13 +536,15 @@ class Fronts(unittest.TestCase):
     def test_given_by_the_file(self):
         """Lines that the subscribers' file has beyond the log's are given once its front leads."""
         self.assertEqual(Stored(self, self.members).stop()[0], 0)
-        again = Stored(self, self.members, head=HEAD + OTHER_SUB)
-        again.until(lambda: "001010000000002" in again.asks("phones"))
-        self.assertEqual(len(self.members.values("given")), 1)
+        more = "".join(OTHER_SUB.replace("2", str(number)) for number in range(2, 6))
+        again = Stored(self, self.members, head=HEAD + more, front=(*HURRIED, "brief"))
+        again.until(lambda: "001010000000005" in again.asks("phones"))
+        self.assertEqual(b"".join(self.members.values("given").values()).decode(), more)
+        self.assertEqual(len(self.members.values("given")), 2)
         again.process.kill()
-        third = Stored(self, self.members, head=HEAD + OTHER_SUB)
-        self.assertIn("001010000000002", third.asks("phones"))
-        self.assertEqual(len(self.members.values("given")), 1)
+        third = Stored(self, self.members, head=HEAD + more)
+        self.assertIn("001010000000005", third.asks("phones"))
+        self.assertEqual(len(self.members.values("given")), 2)
 
     def refused(self, *words, head=HEAD, log=None):
         """What a front says that ends with status 2."""
@@ -541,7 +604,7 @@ class Fronts(unittest.TestCase):
         station.send(b"\xf5")
         status, told = leader.ended()
         self.assertEqual((status, station.has_ended()), (SILENT, True))
-        self.assertIn("the front hasn't turned for 3 s", told)
+        self.assertIn("the front hasn't turned for 1 s", told)
 
     def test_page(self):
         """The page and the metrics of both say how far they are."""
@@ -569,96 +632,164 @@ class Fronts(unittest.TestCase):
 
 @unittest.skipUnless(PROGRAM, MISSING)
 class Full(unittest.TestCase):
-    def test_full(self):
-        """At the store's quota nothing more is answered and the leader ends; with more room a standby goes on where that was."""
-        members = Members(self.enterContext(contextlib.ExitStack()), ("--quota-backend-bytes", str(2 << 20)))
-        leader, standby = Stored(self, members, front=(CHANGED, "hurried")), StandingBy(self, members)
-        station, answered = leader.station(), 0
-        with contextlib.suppress(EOFError):
+    """At the store's quota nothing more is answered, nothing is lost, and it goes on once there is more room."""
+
+    QUOTA = 2 << 20
+
+    def setUp(self):
+        self.members = Members(self.enterContext(contextlib.ExitStack()), ("--quota-backend-bytes", str(self.QUOTA)))
+
+    def fill(self, station, seconds=PATIENCE):
+        """Says something until nothing is answered for so long; how much was."""
+        answered = 0
+        station.socket.settimeout(seconds)
+        with contextlib.suppress(EOFError, TimeoutError):
             while True:
                 station.send(REMEMBERED + bytes(14000))
                 station.receive()
                 answered += 1
+        station.socket.settimeout(PATIENCE)
+        return answered
+
+    def make_room(self):
+        """Gives the store more."""
+        self.members.words = []
+        for place in range(3):
+            self.members.kill(place)
+        for place in range(3):
+            self.members.start(place)
+        alarms = self.members.ask("/v3/maintenance/alarm", {"action": "GET"})["alarms"]
+        time.sleep(1)
+        for alarm in alarms:
+            self.members.ask("/v3/maintenance/alarm", {"action": "DEACTIVATE", **alarm})
+
+    def test_ends(self):
+        """The leader ends, and nobody leads until there is room."""
+        leader, standby = Stored(self, self.members), StandingBy(self, self.members)
+        answered = self.fill(leader.station())
         status, told = leader.ended()
         self.assertEqual(status, LOG_FAILS)
-        self.assertRegex(told, "the store has taken no turn for 5 s: .*space exceeded")
+        self.assertRegex(told, "the store is full: .*space exceeded")
         self.assertGreater(answered, 10)
-        self.assertNotRegex(standby.said(), GOES_ON)
-        members.words = []
-        for place in range(3):
-            members.kill(place)
-        for place in range(3):
-            members.start(place)
-        for alarm in members.ask("/v3/maintenance/alarm", {"action": "GET"}).get("alarms", ()):
-            members.ask("/v3/maintenance/alarm", {"action": "DEACTIVATE", **alarm})
+        standby.until(lambda: b"can't lead, and tries again: " in standby.said())
+        self.assertNotRegex(standby.told, GOES_ON)
+        self.make_room()
         standby.leads()
         self.assertIn(standby.remembers(), (answered, answered + 1))
 
+    def test_waits(self):
+        """With --full-disk refuse its stations wait, and no further one is taken; before that there was an alarm."""
+        port = free_port()
+        leader = Stored(self, self.members, "--full-disk", "refuse", "--page", "127.0.0.1:%d" % port)
+        station = leader.station()
+        leader.until(lambda: leader.store()["store_quota"] == self.QUOTA)
+        self.assertNotIn(b"of its quota", leader.said())
+        self.assertIn('soizkadur_alarm{of="store"} 0\n', Fronts.get(port, "/metrics").decode())
+        answered = self.fill(station, 2.5)
+        self.assertRegex(leader.said(), rb"the store has [0-9.]+ of the 2.0 MiB of its quota: at its quota no turn is taken")
+        self.assertRegex(leader.told, rb"the store is full: .*space exceeded: stations are refused and not heard until")
+        self.assertIn('soizkadur_alarm{of="store"} 1\n', Fronts.get(port, "/metrics").decode())
+        self.assertRegex(Fronts.get(port, "/"), rb'role="alert">The store has [0-9.]+ of the 2.0 MiB of its quota\.<')
+        self.assertTrue(Connected(leader.port).has_ended())
+        self.make_room()
+        station.receive()
+        self.assertIn(b"the log can be written again", leader.said())
+        self.assertEqual((station.says(REMEMBERED), leader.remembers()), (REMEMBERED, answered + 2))
 
-@unittest.skipUnless(PROGRAM, MISSING)
+
+class Deployed(Members):
+    """Members by the files of deploy/standby: their environment, with other addresses and places, and the keys in a folder."""
+
+    FOLDER = tools.TOP / "deploy" / "standby"
+    CREDENTIALS, KEYS = "/run/credentials/soizkadur@01.service/store-", "/etc/etcd/"
+
+    def __init__(self, after):
+        self.keys = pathlib.Path(after.enter_context(tempfile.TemporaryDirectory()))
+        subprocess.run(["sh", self.FOLDER / "certificates", self.keys, "127.0.0.1"], check=True, capture_output=True, timeout=60)
+        super().__init__(after, files=(self.keys / "front.pem", self.keys / "ca.pem"))
+
+    def start(self, place, state="new"):
+        name = ("one", "two", "three")[place]
+        text = (self.FOLDER / "etcd.environment").read_text().replace("ETCD_NAME=one", "ETCD_NAME=" + name)
+        text = re.sub(r"^(ETCD_\w+URLS=https://192.0.2.)11", r"\g<1>1%d" % (place + 1), text, flags=re.MULTILINE)
+        for number in range(3):
+            for port, ports in ((2379, self.clients), (2380, self.peers)):
+                text = text.replace("192.0.2.1%d:%d" % (number + 1, port), "127.0.0.1:%d" % ports[number])
+        own = self.folder / ("keys%d" % place)
+        own.mkdir(exist_ok=True)
+        for name, source in (("ca.pem", "ca.pem"), ("member.pem", "127.0.0.1.pem"), ("member.key", "127.0.0.1.key")):
+            shutil.copy(self.keys / source, own / name)
+        rights = without_rights()
+        for path in (own, *own.iterdir()) if rights else ():
+            os.chown(path, rights["user"], rights["group"])
+        given = dict(line.split("=", 1) for line in text.replace(self.KEYS, "%s/" % own).splitlines() if line.startswith("ETCD_"))
+        given.update(ETCD_DATA_DIR=str(self.folder / ("m%d" % place)), ETCD_LOG_LEVEL="error")
+        with open(self.folder / ("m%d.log" % place), "ab") as said_there:
+            self.processes[place] = subprocess.Popen([PROGRAM], env=given, stdin=subprocess.DEVNULL, stdout=said_there,
+                                                     stderr=said_there, cwd="/", **rights)
+
+    def add_users(self, password):
+        """By the commands of etcd.environment."""
+        lines = re.findall("^#     (export .*|etcdctl .*)$", (self.FOLDER / "etcd.environment").read_text(), re.MULTILINE)
+        text = "\n".join(lines).replace("https://192.0.2.11:2379", self.urls(self.clients[:1])).replace("store/", "%s/" % self.keys)
+        text = re.sub("user add (\\w+)", r"user add \1:" + password, text)
+        subprocess.run(["sh", "-eu", "-c", text], check=True, capture_output=True, timeout=PATIENCE)
+
+    def front_words(self, password):
+        """The front's, by 01.environment."""
+        for name, source in (("ca", "ca.pem"), ("cert", "front.pem")):
+            shutil.copy(self.keys / source, self.keys / name)
+        (self.keys / "password").write_text(password + "\n")
+        text = (self.FOLDER / "01.environment").read_text()
+        [words] = re.findall(r"^WORDS=((?:.*\\\n)*.*)", text, re.MULTILINE)
+        words = shlex.split(words.replace("\\\n", " ").replace(self.CREDENTIALS, "%s/" % self.keys))
+        words[words.index("--store") + 1] = self.urls()
+        words[words.index("--page") + 1] = "127.0.0.1:%d" % free_port()
+        return words
+
+
+@unittest.skipUnless(PROGRAM and shutil.which("etcdctl"), MISSING)
+@unittest.skipUnless(shutil.which("openssl"), "no openssl")
 class Secret(tools.InFolder):
     """TLS and users of etcd."""
 
-    def certificate(self, name, ca=None):
-        """A certificate that signs for itself; or one that a CA signed, in a file with its key."""
-        path, key, request = (self.folder / (name + end) for end in (".pem", ".key", ".csr"))
-        run = lambda *words: subprocess.run(["openssl", *map(str, words)], check=True, capture_output=True, timeout=60)
-        if ca is None:
-            run("req", "-x509", "-newkey", "rsa:2048", "-nodes", "-subj", "/CN=" + name, "-keyout", key, "-out", path, "-days", "2")
-        else:
-            names = self.file("names", "subjectAltName=IP:127.0.0.1\n")
-            run("req", "-newkey", "rsa:2048", "-nodes", "-subj", "/CN=" + name, "-keyout", key, "-out", request)
-            run("x509", "-req", "-in", request, "-CA", ca, "-CAkey", ca.with_suffix(".key"), "-CAcreateserial", "-out", path,
-                "-days", "2", "-extfile", names)
-            path.write_text(path.read_text() + key.read_text())
-        path.chmod(0o644)
-        return path
-
-    @unittest.skipUnless(shutil.which("openssl"), "no openssl")
-    def test_tls(self):
-        """By https with both sides' certificates; one that another CA signed isn't taken."""
-        self.folder.chmod(0o755)
-        ca = self.certificate("ca")
-        server, client = self.certificate("server", ca), self.certificate("client", ca)
-        members = Members(self.enterContext(contextlib.ExitStack()), files=(server, ca))
-        leader = Stored(self, members, "--store-ca", ca, "--store-cert", client)
-        standby = StandingBy(self, members, "--store-ca", ca, "--store-cert", client)
-        self.assertEqual(leader.station().says(REMEMBERED), REMEMBERED)
+    def test_deployed(self):
+        """By the files of deploy/standby: two fronts stand by, one of them leads, and once it is killed the other one does."""
+        members = Deployed(self.enterContext(contextlib.ExitStack()))
+        members.add_users("s3cret")
+        one, two = (StandingByFor(self, members.front_words("s3cret")) for _ in range(2))
+        one.until(lambda: one.store()["leads"] or two.store()["leads"])
+        leader, standby = (one, two) if one.store()["leads"] else (two, one)
+        leader.leads()
+        station = leader.station()
+        for place in range(3):  # a member that begins anew has forgotten who was let in
+            members.kill(place)
+            members.start(place, "existing")
+            self.assertEqual(station.says(REMEMBERED), REMEMBERED)
+        self.assertNotIn(b"s3cret", pathlib.Path("/proc/%d/cmdline" % leader.process.pid).read_bytes())
+        standby.follows_all()
         leader.process.kill()
         standby.leads()
-        self.assertEqual(standby.remembers(), 1)
-        other = self.certificate("other")
-        with unittest.mock.patch.object(limits, "STORE_SECONDS", 0.3):
-            status, text = said(["run", standby.subscribers, self.folder / "log", "--tcp", "--port", "0", "--store", members.urls(),
-                                 "--store-ca", other])
-        self.assertEqual(status, NOT_YET)
-        self.assertIn("CERTIFICATE_VERIFY_FAILED", text)
+        self.assertEqual(standby.remembers(), 3)
+        self.is_not_let_in(members, standby)
 
-    def test_users(self):
-        """By a user's password, which the front says again once a member has forgotten who it is."""
-        members = Members(self.enterContext(contextlib.ExitStack()))
-        for path, body in (("user/add", {"name": "root", "password": "r"}), ("role/add", {"name": "root"}),
-                           ("user/grant", {"user": "root", "role": "root"}), ("user/add", {"name": "mme", "password": "s3cret"}),
-                           ("role/add", {"name": "mme"}), ("user/grant", {"user": "mme", "role": "mme"}),
-                           ("role/grant", {"name": "mme", "perm": {"permType": "READWRITE", "key": b64(b"/soizkadur/"),
-                                                                   "range_end": b64(b"/soizkadur0")}}), ("enable", {})):
-            members.ask("/v3/auth/" + path, body)
-        password, wrong = self.file("password", "s3cret\n"), self.file("wrong", "other\n")
-        leader = Stored(self, members, "--store-user", "mme", "--store-password", password)
-        station = leader.station()
-        for place in range(3):
-            members.kill(place)
-            members.start(place)
-            members.is_there()
-            for _ in range(20):
-                self.assertEqual(station.says(REMEMBERED), REMEMBERED)
-        self.assertNotIn(b"s3cret", pathlib.Path("/proc/%d/cmdline" % leader.process.pid).read_bytes())
-        self.assertEqual(leader.stop()[0], 0)
-        for words, told in (((), "user name is empty"), (("--store-user", "mme", "--store-password", wrong), "authentication failed")):
-            status, text = said(["run", leader.subscribers, self.folder / "log", "--tcp", "--port", "0", "--store", members.urls(),
-                                 *words])
-            self.assertEqual(status, WRONG)
-            self.assertIn(told, text)
+    def is_not_let_in(self, members, standby):
+        """Who has no password or a wrong one, no certificate, or one that another CA signed."""
+        (self.folder / "wrong").write_text("other\n")
+        other = self.folder / "other"
+        subprocess.run(["sh", Deployed.FOLDER / "certificates", other, "127.0.0.1"], check=True, capture_output=True, timeout=60)
+        ca, cert = ("--store-ca", members.keys / "ca"), ("--store-cert", members.keys / "cert")
+        wrong = "--store-user", "mme", "--store-password", self.folder / "wrong"
+        for more, status, told in (
+                ((*ca, *cert), WRONG, "permission denied"), ((*ca, *cert, *wrong), WRONG, "authentication failed"),
+                (ca, NOT_YET, "certificate"),
+                ((*ca, "--store-cert", other / "front.pem"), NOT_YET, "."),
+                (("--store-ca", other / "ca.pem", *cert), NOT_YET, "CERTIFICATE_VERIFY_FAILED")):
+            with self.subTest(more=more), unittest.mock.patch.object(limits, "STORE_SECONDS", 0.3):
+                found, text = said(["run", standby.subscribers, self.folder / "log", "--tcp", "--port", "0", "--store",
+                                    members.urls(), *more])
+                self.assertEqual(found, status, text)
+                self.assertIn(told, text)
 
 
 if __name__ == "__main__":
