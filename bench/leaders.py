@@ -48,8 +48,8 @@ def by_rest(run):
 
 
 class Asleep:
-    """A front that was paused, the connections to it, who had which eNB UE S1AP ID then, what the phones knew of their keys, and which
-    challenges were over: one that it sent may come once more, late, as it may in its procedure."""
+    """A front that was paused, the connections to it, who had which eNB UE S1AP ID then, what the phones knew of their keys, and
+    which challenges were over: one that it sent may come once more, late, as it may in its procedure."""
 
     def __init__(self, run, radio):
         self.run, self.radio, self.wires, self.by_id = run, radio, radio.wires, dict(radio.by_id)

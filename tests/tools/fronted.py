@@ -131,9 +131,9 @@ class Running:
     does what it is for."""
 
     READY = rb"ready: stations at \S+ port (\d+) by"
+    front = (tools.TOP / "tools" / "front",)
 
-    def __init__(self, test, *words, head=HEAD, program=None, before=None, folder=None, link="--tcp", environment=(),
-                 front=(tools.TOP / "tools" / "front",)):
+    def __init__(self, test, *words, head=HEAD, program=None, before=None, folder=None, link="--tcp", environment=()):
         self.folder = folder or pathlib.Path(test.enterContext(tempfile.TemporaryDirectory()))
         self.log, self.control, self.subscribers = (self.folder / name for name in ("log", "log.control", "subscribers"))
         self.subscribers.write_text(head)
@@ -143,7 +143,7 @@ class Running:
             program.chmod(0o755)
         given = ["run", self.subscribers, self.log, link, "--port", "0", "--per-address", "128", "--setup-seconds", "3600",
                  "--answer-seconds", "120", *(["--library"] if program is LIBRARY else ["--mme", program]), *words]
-        self.process = subprocess.Popen([sys.executable, *map(str, [*front, *given])], stderr=subprocess.PIPE,
+        self.process = subprocess.Popen([sys.executable, *map(str, [*self.front, *given])], stderr=subprocess.PIPE,
                                         preexec_fn=before, env={**os.environ, **dict(environment)})
         self.told, self.connections = b"", []
         test.addCleanup(self.end)

@@ -285,6 +285,7 @@ class Chain(unittest.TestCase):
         """While two members are gone nothing is answered; a leader ends after a while; what it sent may stand once they come."""
         leader = Leader(self, self.members.urls())
         for place in (0, 1):
+            self.addCleanup(self.members.wake, place)
             self.members.pause(place)
         leader.turn("in 0 aa")
         leader.exchange.hear(DOWN + MARK)
@@ -329,8 +330,8 @@ class Stored(Running):
     """A front with its log in a store, which leads."""
 
     def __init__(self, test, members, *words, front=HURRIED, **named):
-        urls = members if isinstance(members, str) else members.urls()
-        super().__init__(test, "--store", urls, "--second", "0.1", *words, front=front, **named)
+        self.front = front
+        super().__init__(test, "--store", members.urls(), "--second", "0.1", *words, **named)
 
     def station(self):
         """One more connection, by which something was answered."""
@@ -374,8 +375,10 @@ class StandingBy(Stored):
 class StandingByFor(StandingBy):
     """One by all of its words on the store."""
 
+    front = HURRIED
+
     def __init__(self, test, words):
-        Running.__init__(self, test, "--second", "0.1", *words, front=HURRIED)
+        Running.__init__(self, test, "--second", "0.1", *words)
 
 
 @unittest.skipUnless(PROGRAM, MISSING)
