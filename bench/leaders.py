@@ -25,9 +25,10 @@ sys.dont_write_bytecode = True
 if __name__ == "__main__":
     sys.path[0] = str(pathlib.Path(__file__).resolve().parent.parent)
 from bench import ends, etcds, kills, lives, wire
-from tools.fronting.faults import NOT_YET
+from tools.fronting.faults import LOG_FAILS, NOT_YET
 
 END_SECONDS = 60
+DEPOSED = NOT_YET, LOG_FAILS  # another one leads; or it is long since the store has taken a turn, before that is known
 AWAKE_SECONDS, REST_SECONDS, DOWN_SECONDS = 0.3, 0.15, 0.3
 
 
@@ -150,7 +151,7 @@ class Storm(kills.Storm):
                 self.radio.turn(0.01)
             if run.process.poll() is None:
                 self.watch.violates("a front that was paused doesn't end: " + run.said())
-            elif run.process.returncode != NOT_YET:
+            elif run.process.returncode not in DEPOSED:
                 self.watch.violates("a front that was paused ends with status %d: %s" % (run.process.returncode, run.said()))
             self.asleep.pop(0)
             run.is_over()
