@@ -36,7 +36,7 @@ class Storms(unittest.TestCase):
         said = []
         given = leaders.parser().parse_args(["--phones", "6", "--vectors", "40", "--second", "0.05", "--seed", "7", *words])
         given.mme = PROGRAM
-        with tempfile.TemporaryDirectory() as folder, mock.patch.multiple(leaders.Storm, LATE=SOON, REPLAYED=0.15):
+        with tempfile.TemporaryDirectory() as folder, mock.patch.multiple(leaders.Storm, LATE=SOON, REPLAYED=0.3):
             return leaders.blown(given, folder, self.members, said.append, (CHANGED, *changes)), "\n".join(said)
 
     def test_killed_and_paused(self):
@@ -58,7 +58,7 @@ class Storms(unittest.TestCase):
 
     def finds(self, *changes):
         """Whether a storm finds what is used twice, where a front is changed."""
-        storm, said = self.blown("--runs", "6", "--ends", "rest", "--first", changes=(*HURRIED, *changes))
+        storm, said = self.blown("--runs", "15", "--ends", "rest", "--first", changes=(*HURRIED, *changes))
         self.assertRegex("\n".join(storm.watch.violations), USED_TWICE, said)
 
     def test_unheld(self):
