@@ -2,28 +2,32 @@
 """What tools/front takes: messages a second through it, and the time from a message to its answer.
 
     front.py [PROGRAM | --library] [--only WORD ..] [--stations N ..] [--seconds N] [--rounds N] [--rate N] [--beside CLONE ..]
-             [--folder FOLDER]
+             [--folder FOLDER] [--etcd]
 
 WORD is one of these, and all of them where none is given:
   throughput  stations that each keep messages under way, as many as go; and the processor time of a message: the best of the
               rounds of each front, which have their rounds in turn
-  latency     stations that together send 20,000 messages a second
+  latency     stations that together send 20,000 messages a second (--rate)
   flood       one station that sends 100 messages a second, beside 127 that send as many as go
   attaches    500 phones that attach through one station at the front's own rate, all begun at once
   page        stations that together send 1,000 messages a second (--rate) to an MME of 32,768 subscribers, without and with 64
               clients of the page, of all manners (browsers.py)
+  standby     with --etcd: stations that together send 5,000 messages a second (--rate) to a leader, which is then killed: how far
+              the front that stands by lags, and when it answers
 
 Messages are S1 SETUP REQUESTs, 35 octets each, whose answers have 27; each connection is TCP on this machine. PROGRAM is
 ../crates/mme/out/mme where none is given; with --library the MME is in the front's own process, and so is its processor time. Times
 are of the clock, so nothing else should run; the processor time is disturbed less.
 
 Each measure is taken with --sync yes, with --sync no, and with the front of each CLONE as it is, in turn. The logs are in a folder
-of their own in FOLDER, or where temporary files are; what a sync costs is a matter of its disk.
+of their own in FOLDER, or where temporary files are; what a sync costs is a matter of its disk. With --etcd, each measure is also
+taken with the log in etcd, whose three members run on this machine, with what they write where temporary files are.
 """
 import argparse
 import collections
 import contextlib
 import itertools
+import json
 import os
 import pathlib
 import re
@@ -37,6 +41,7 @@ import time
 sys.dont_write_bytecode = True
 if __name__ == "__main__":
     sys.path[0] = str(pathlib.Path(__file__).resolve().parent.parent)
+from bench import etcds
 from reference import lte, phones
 
 TOP = pathlib.Path(__file__).resolve().parent.parent
@@ -46,6 +51,7 @@ ANSWER = lte.s1_setup_response(NETWORK)
 FRAMED, ANSWERED = len(REQUEST).to_bytes(2, "big") + REQUEST, len(ANSWER) + 2
 UNDER_WAY = 512  # messages that all stations together keep under way, but at least two each
 RATE, QUIET_RATE, PHONES = 20000, 100, 500
+STORED_RATE, STORED_STATIONS, LAGS = 5000, 20, 40
 PAGED_RATE, PAGED_STATIONS, SUBSCRIBERS, CLIENTS = 1000, 20, 32768, 64
 TICKS = os.sysconf("SC_CLK_TCK")
 AT_WILL = ("--rate", "1000000")
@@ -65,14 +71,33 @@ class Front:
         self.process = subprocess.Popen(
             [sys.executable, front, "run", folder / "subscribers", folder / "log", "--tcp", "--port", "0",
              "--per-address", "128", "--setup-seconds", "3600", *mme, *words], stderr=subprocess.PIPE, text=True)
-        self.port = None
+        self.control = folder / "log.control"
+        if "--standby" in words:
+            self.says("follows the log")
+        else:
+            self.port = self.is_ready()
+
+    def is_ready(self):
+        """Waits until it takes stations; the port that it does so at."""
+        return int(self.says(r"ready: stations at \S+ port (\d+)")[1])
+
+    def says(self, text):
+        """Waits until it says something."""
         for line in self.process.stderr:
-            found = re.search(r"ready: stations at \S+ port (\d+)", line)
-            if found:
-                self.port = int(found[1])
-                break
-        if self.port is None:
-            raise SystemExit("front.py: the front doesn't begin")
+            if found := re.search(text, line):
+                return found
+        raise SystemExit("front.py: the front doesn't begin")
+
+    def counters(self):
+        """What it counts."""
+        with socket.socket(socket.AF_UNIX) as asking:
+            asking.connect(str(self.control))
+            asking.sendall(b"counters\n")
+            return json.loads(asking.makefile().readline().partition(" ")[2])
+
+    def turn(self):
+        """The last turn that it has committed or played, of a log in a store."""
+        return self.counters()["store"]["turn"]
 
     def processes(self):
         """The front's process, and its MME's where that is another."""
@@ -186,7 +211,9 @@ def share(times, part):
 
 
 def begun(given, way, head, *words):
-    """A front of a way."""
+    """A front of a way, with nothing before it."""
+    if given.members is not None:
+        given.members.forget()
     return Front(given.program, head, *words, *way.words, front=way.front, folder=given.folder)
 
 
@@ -214,11 +241,11 @@ def throughput_of(given, way, count):
 
 def latency(given):
     print("| stations, together %d messages a second | front | answered | median, ms | 99 of 100 within, ms |\n"
-          "|---|---|---|---|---|" % RATE)
+          "|---|---|---|---|---|" % (given.rate or RATE))
     for count, way in itertools.product(given.stations, given.ways):
         front = begun(given, way, head(), *AT_WILL)
         load = Load(front.port, count)
-        times = load.paced(RATE, given.seconds)
+        times = load.paced(given.rate or RATE, given.seconds)
         print("| %d | %s | %d | %.2f | %.2f |" % (count, way.name, len(times), share(times, 0.5), share(times, 0.99)))
         load.close()
         front.close()
@@ -295,15 +322,16 @@ def page(given):
     port = free_port()
     front = Front(given.program, head() + subscribers, *AT_WILL, "--page", "127.0.0.1:%d" % port)
     load = Load(front.port, PAGED_STATIONS)
-    load.paced(given.rate, 1)
+    rate = given.rate or PAGED_RATE
+    load.paced(rate, 1)
     print("| %d messages a second, %d subscribers | answered | median, ms | 99 of 100 within, ms | the last, ms | memory, MiB | "
-          "processor time of the front and the MME, s |\n|---|---|---|---|---|---|---|" % (given.rate, SUBSCRIBERS))
+          "processor time of the front and the MME, s |\n|---|---|---|---|---|---|---|" % (rate, SUBSCRIBERS))
     told = b""
     for count in (0, CLIENTS):
         words = ["nice", sys.executable, TOP / "bench" / "browsers.py", str(port), str(count), str(given.seconds)]
         browsers = subprocess.Popen(words, stdout=subprocess.PIPE)
         before = sum(front.seconds())
-        times = load.paced(given.rate, given.seconds)
+        times = load.paced(rate, given.seconds)
         told, _ = browsers.communicate()
         print("| %s | %d | %.2f | %.2f | %.2f | %.1f | %.2f |" % (
             "with %d clients of the page" % count if count else "without clients of the page", len(times), share(times, 0.5),
@@ -313,27 +341,92 @@ def page(given):
     front.close()
 
 
+def standby(given):
+    """The leader's load is a process of its own. A lag is the time from when the leader said how far it was until the other one
+    said that it is there."""
+    for way in given.ways:
+        if "--store" in way.words:
+            standby_of(given, way)
+
+
+def loaded(given, port):
+    """A process that sends messages until it is killed."""
+    child = os.fork()
+    if child == 0:
+        try:
+            Load(port, STORED_STATIONS).paced(given.rate or STORED_RATE, given.seconds + 60)
+        finally:
+            os._exit(0)
+    return child
+
+
+def lags_of(given, leader, other):
+    """How long after the leader the other front is where that was, each time."""
+    lags, end = [], time.perf_counter() + given.seconds
+    while time.perf_counter() < end:
+        turn, begin = leader.turn(), time.perf_counter()
+        while other.turn() < turn:
+            pass
+        lags.append(time.perf_counter() - begin)
+        time.sleep(given.seconds / LAGS)
+    return lags
+
+
+def standby_of(given, way):
+    before = given.members.octets()
+    leader = begun(given, way, head(), *AT_WILL)
+    other = Front(given.program, head(), *AT_WILL, *way.words, "--standby", folder=given.folder)
+    child = loaded(given, leader.port)
+    lags, counters, octets = lags_of(given, leader, other), leader.counters(), given.members.octets() - before
+    leader.process.kill()
+    begin = time.perf_counter()
+    load, times = Load(other.is_ready(), 1), []
+    load.stations[0].send(1, begin)
+    while not times:
+        load.stations[0].receive(times)
+    turns, messages = other.turn(), sum(counters["messages_in"].values())
+    begin = time.perf_counter()
+    third = Front(given.program, head(), *AT_WILL, *way.words, "--standby", folder=given.folder)
+    while third.turn() < turns:
+        time.sleep(0.01)
+    playing = time.perf_counter() - begin
+    print("at %d messages a second the one that stands by was within %.1f ms of the leader half the time and within %.1f at the "
+          "most; it answered %.2f s after the leader was killed" % (
+              given.rate or STORED_RATE, share(lags, 0.5), share(lags, 1), times[0]))
+    print("%d messages in %d turns took %d octets of the store, %.0f a message; a front that began played them in %.1f s" % (
+        messages, counters["store"]["turn"], octets, octets / messages, playing))
+    os.kill(child, 9)
+    os.waitpid(child, 0)
+    load.close()
+    for front in (leader, other, third):
+        front.close()
+
+
 def main():
     words = argparse.ArgumentParser(description=__doc__, formatter_class=argparse.RawDescriptionHelpFormatter)
     mmes = words.add_mutually_exclusive_group()
     mmes.add_argument("program", metavar="PROGRAM", nargs="?", default=TOP / "crates" / "mme" / "out" / "mme")
     mmes.add_argument("--library", action="store_true")
-    measures = {measure.__name__: measure for measure in (throughput, latency, flood, attaches, page)}
+    measures = {measure.__name__: measure for measure in (throughput, latency, flood, attaches, page, standby)}
     words.add_argument("--only", nargs="+", choices=measures, default=list(measures))
     words.add_argument("--stations", nargs="+", type=int, default=[1, 10, 100])
     words.add_argument("--seconds", type=float, default=5.0)
     words.add_argument("--rounds", type=int, default=1)
-    words.add_argument("--rate", type=int, default=PAGED_RATE)
+    words.add_argument("--rate", type=int)
     words.add_argument("--beside", nargs="+", metavar="CLONE", type=pathlib.Path, default=[])
     words.add_argument("--folder", type=pathlib.Path)
+    words.add_argument("--etcd", action="store_true")
     given = words.parse_args()
     given.ways = [Way("--sync " + sync, FRONT, ("--sync", sync)) for sync in ("yes", "no")]
     given.ways += [Way("of " + clone.name, clone / "tools" / "front", ()) for clone in given.beside]
     if given.library:
         given.program = LIBRARY  # (a word that sets `program` would give way to the default of the one that is left out)
-    for name in given.only:
-        measures[name](given)
-        print(flush=True)
+    with contextlib.ExitStack() as after:
+        given.members = etcds.Members(after) if given.etcd else None
+        given.ways += [Way("etcd", FRONT, ("--store", given.members.urls()))] if given.etcd else []
+        for name in given.only:
+            measures[name](given)
+            print(flush=True)
 
 
 if __name__ == "__main__":

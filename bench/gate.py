@@ -4,7 +4,7 @@ part of the gate that needs no proof.
 
     python3 bench/gate.py                                 runs .ci/run --anew
     taskset -c 0,1 python3 bench/gate.py                  the same on two processors
-    python3 bench/gate.py -- rt must-fail identity_slots  runs another command
+    python3 bench/gate.py -- rt must-fail nas_security    runs another command
 
 What the command prints goes to standard error, the table to standard output. Once a second all processes that descend from
 the command are looked at, so a figure may lack a second for each process. Linux alone."""

@@ -54,6 +54,8 @@ SOON, LATE = (10, 400), (100, 1500)  # messages after which a run ends: of those
 class Storm:
     """Phones and stations, the runs of a front one after the other, and what was found."""
 
+    ENDS, LATE, REPLAYED = ends.ENDS, LATE, 1.0  # the last: the share of beginnings after which all is sent again
+
     def __init__(self, given, folder, say=print):
         self.given, self.folder, self.say = given, pathlib.Path(folder), say
         self.room = tempfile.TemporaryDirectory()  # for the control socket
@@ -120,7 +122,7 @@ class Storm:
             radio.connect(self.run.port, self.link)
             if radio.run > 1:
                 self.look_after_beginning()
-            radio.due_at = radio.due_at if is_early else radio.passed + self.chance.randint(*LATE)
+            radio.due_at = radio.due_at if is_early else radio.passed + self.chance.randint(*self.LATE)
             radio.answers_pages, end = True, time.monotonic() + self.given.run_seconds
             while not is_last:
                 self.act()
@@ -138,7 +140,7 @@ class Storm:
     def chosen_end(self):
         """The stages of the run's end, and how the next one begins."""
         word = self.chance.choice(self.given.ends)
-        stages, start = ends.ENDS[word]
+        stages, start = self.ENDS[word]
         self.counted["ends by " + word] += 1
         return list(stages), start(self.folder, self.chance)
 
@@ -191,6 +193,9 @@ class Storm:
             self.counted["beginnings with nobody"] += 1
             for phone in radio.phones:
                 phone.standing = lives.UNSURE if phone.standing == lives.REGISTERED else phone.standing
+        if self.REPLAYED < 1 and self.chance.random() >= self.REPLAYED:
+            self.serve_registered()
+            return
         replay = replays.Replay(radio, self.run)
         replay.without_connections()
         radio.attack = None
@@ -269,8 +274,8 @@ def has(path, text):
         return octets.rfind(text) >= 0
 
 
-def parser():
-    words = argparse.ArgumentParser(description=__doc__, formatter_class=argparse.RawDescriptionHelpFormatter)
+def parser(description=__doc__, of_storm=Storm):
+    words = argparse.ArgumentParser(description=description, formatter_class=argparse.RawDescriptionHelpFormatter)
     mmes = words.add_mutually_exclusive_group()
     mmes.add_argument("--mme", metavar="PROGRAM", default=wire.TOP / "crates" / "mme" / "out" / "mme")
     mmes.add_argument("--library", dest="mme", action="store_const", const=wire.LIBRARY)
@@ -282,7 +287,7 @@ def parser():
     words.add_argument("--seed", type=int, default=1, help="1 where not given")
     words.add_argument("--second", type=float, default=0.1, help="the length of a tick; 0.1 s where not given")
     words.add_argument("--sctp", action="store_true", help="by SCTP, in place of TCP")
-    words.add_argument("--ends", nargs="+", choices=ends.ENDS, default=["kill"])
+    words.add_argument("--ends", nargs="+", choices=of_storm.ENDS, default=["kill"])
     words.add_argument("--folder", type=pathlib.Path, help="a folder for the log and what the front says, which stay; none that "
                        "stays where not given")
     words.add_argument("words", metavar="WORD", nargs="*", default=[])

@@ -18,6 +18,7 @@ PIECE = 1 << 16
 BEGIN_SECONDS, END_SECONDS, ASK_SECONDS = 120, 60, 120
 PLAYED = 1 << 20  # octets of a log that are played in a second, at the least
 SCTP_INIT, SCTP_NODELAY, SEND_INFORMATION, S1AP_PROTOCOL = 2, 3, 2, 18  # RFC 6458 by Linux's numbers; TS 36.412 clause 7
+FRONT = TOP / "tools" / "front"
 READY = re.compile(r"ready: stations at \S+ port (\d+) by")
 MOST_ASKING = 4
 LIBRARY = object()  # in a program's place: the MME in the front's own process
@@ -135,12 +136,12 @@ class Run:
     """One run of a front, whose log and subscribers stand in a folder, and its control socket in another, as a socket's path is
     short and not on any file system. What it says goes to a file beside the log."""
 
-    def __init__(self, folder, room, program, *words):
+    def __init__(self, folder, room, program, *words, front=(FRONT,)):
         self.log, self.words_said, self.port, self.mmes = folder / "log", folder / "said", None, []
         self.asking = []  # connections to the control socket whose answers are due
         self.control = pathlib.Path(room, "control")
         mme = ["--library"] if program is LIBRARY else ["--mme", program]
-        given = [sys.executable, TOP / "tools" / "front", "run", folder / "subscribers", self.log, "--control", self.control,
+        given = [sys.executable, *front, "run", folder / "subscribers", self.log, "--control", self.control,
                  "--port", "0", "--per-address", "128", "--setup-seconds", "3600", "--segments", "10000", "--answer-seconds", "120",
                  *mme, *words]
         with open(self.words_said, "wb") as said:

@@ -22,8 +22,6 @@ pub {name}_spec : {{M : Type 1}} → stated.statement M
 FORMS = ("Proof.antt", "Invariants.antt", "Answers.antt")
 # What stands for the body of a function that is granted, so that nothing is worked out of it.
 NO_BODY = "unreachable!()"
-# How a check with holes says that a function is proved but for them.
-BUT_FOR_HOLES = ("no holes", "depends on a hole in ")
 
 
 def functions_of(crate):

@@ -5,10 +5,10 @@ import threading
 from concurrent.futures import ThreadPoolExecutor
 
 from tests.beside import BETWEEN_LOOKS, proved_in
-from tests.editing.granted import BUT_FOR_HOLES, all_but
+from tests.editing.granted import all_but
 from tests.editing.records import added_since, changed, crate_names, digest_of, edits_of, function_of, guards_of, record, text_of
 from tests.editing.trials import GIGABYTES_OF_A_CHECK, Trial, free_gigabytes, prover
-from tests.editing.verdicts import SAID, is_own_refusal
+from tests.editing.verdicts import SAID, is_by_contract, is_own_refusal, is_proved
 
 # The last line of a check of some functions alone.
 SOME_CHECKED = re.compile(r"^only=(\d+) (?:proved|holes)=(\d+)\b")
@@ -28,9 +28,10 @@ def guard_batches(guards):
 
 def try_guards_of(rt, crate, guards):
     """Tries guards of different functions of a crate in one check of these functions, where all others are granted; gives of each whether
-    it is refused, and a line that says so.
+    it is refused, or None where that can't be told, and a line that says so.
 
-    A function is proved by the contracts of those that it calls and not by their bodies, so what one guard makes wrong refuses no other."""
+    A function is proved by the contracts of those that it calls and not by their bodies, so what one guard makes wrong refuses no other.
+    One that is refused by proof files alone that don't fit it is tried again without what doesn't, as other edits are."""
     functions = [function_of(guard) for guard in guards]
     labels = [f"guard {crate.name}/{os.path.basename(guard)}" for guard in guards]
     with all_but(crate, functions) as (own, asked):
@@ -39,19 +40,23 @@ def try_guards_of(rt, crate, guards):
             return [(False, f"{label}: NOT TRIED: {why}") for label in labels]
         only = [word for function in functions for word in ("--only", function)]
         ran = rt.checked(own, texts, [*Trial.flags, *only, *asked], None)
-    lines = ran.stdout.rstrip("\n").split("\n")
-    ended = ran.returncode in (0, 1) and SOME_CHECKED.match(lines[-1]) and not any(rt.unread(line, texts) for line in lines)
-    found = []
-    said = dict(SAID.findall(ran.stdout)) if ended else {}
-    for function, label in zip(functions, labels):
-        verdict = said.get(f"{crate.name}::{function}")
-        if is_own_refusal(verdict) and not verdict.startswith(BUT_FOR_HOLES):
-            found.append((True, f"{label}: refused, as it must be, by the proof of {function}"))
-        elif verdict and (verdict == "proved" or verdict.startswith(BUT_FOR_HOLES)):
-            found.append((False, f"{label}: NOT REFUSED: {function} is still proved with this edit"))
-        else:
-            last = "\n".join(lines[-6:])
-            found.append((False, f"{label}: NOT TRIED: the check of {function} ended with status {ran.returncode}:\n{last}"))
+        lines = ran.stdout.rstrip("\n").split("\n")
+        ended = ran.returncode in (0, 1) and SOME_CHECKED.match(lines[-1]) and not any(rt.unread(line, texts) for line in lines)
+        found = []
+        said = dict(SAID.findall(ran.stdout)) if ended else {}
+        for guard, function, label in zip(guards, functions, labels):
+            name = f"{crate.name}::{function}"
+            verdict = said.get(name)
+            if is_own_refusal(verdict) and is_by_contract(ran.stdout, name):
+                found.append((True, f"{label}: refused, as it must be, by the proof of {function}"))
+            elif is_own_refusal(verdict):
+                refused, text = Trial(rt, own, None, None, None, asked).try_fitted(guard, name, ran.stdout)
+                found.append((refused, text.replace("edit ", "guard ", 1)))
+            elif is_proved(verdict):
+                found.append((False, f"{label}: NOT REFUSED: {function} is still proved with this edit"))
+            else:
+                last = "\n".join(lines[-6:])
+                found.append((False, f"{label}: NOT TRIED: the check of {function} ended with status {ran.returncode}:\n{last}"))
     return found
 
 
@@ -67,7 +72,7 @@ def try_in_turn(rt, crate, batches, places, is_alone):
     for batch in batches:
         for refused, text in try_guards_of(rt, crate, batch):
             print(f"edits: {text}", flush=True)
-            passed += refused
+            passed += refused is True
     if placed:
         places.release()
     return passed
@@ -99,7 +104,7 @@ def try_added(since, names, lanes):
         answers = []
         for edits in guard_batches([edit for edit in added[name] if function_of(edit)]):
             answers += try_guards_of(rt, crates[name], edits)
-        answers += [trial.try_whole(edit) for edit in added[name] if not function_of(edit)]
+        answers += [trial.judged(edit, *trial.try_whole(edit)) for edit in added[name] if not function_of(edit)]
         for _, text in answers:
             print(f"edits: {text}", flush=True)
         return digest if all(refused for refused, _ in answers) and digest == digest_of(name) else None

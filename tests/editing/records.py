@@ -131,13 +131,18 @@ def check():
     return 1 if faults else 0
 
 
+def unpack(since, room):
+    """Lays the crates of a commit out in a folder, with their record."""
+    archive = subprocess.run(["git", "archive", since, "crates", "crates.txt", "tests/edits.tried"], cwd=TOP, check=True, stdout=subprocess.PIPE)
+    subprocess.run(["tar", "-x", "-C", room], check=True, input=archive.stdout)
+
+
 def renamed_from(renaming, since, room):
     """Returns the rows of the record of a commit that stand for the text as it is now, by the crates' names now: those of crates whose
     edits were tried on the commit's text, and whose text is now that one renamed."""
     old, new = os.path.join(room, "old"), os.path.join(room, "new")
     os.makedirs(old)
-    archive = subprocess.run(["git", "archive", since, "crates", "crates.txt", "tests/edits.tried"], cwd=TOP, check=True, stdout=subprocess.PIPE)
-    subprocess.run(["tar", "-x", "-C", old], check=True, input=archive.stdout)
+    unpack(since, old)
     rename_crates(renaming, old, new)
     rows = {}
     for name, (digest, count) in recorded(os.path.join(old, "tests", "edits.tried")).items():
@@ -159,28 +164,17 @@ def carry(map_file, since):
     return 1 if left else 0
 
 
-def recorded_at(since):
-    """Returns the rows of the record of a commit."""
-    ran = subprocess.run(["git", "show", f"{since}:tests/edits.tried"], cwd=TOP, check=True, stdout=subprocess.PIPE, text=True)
-    with tempfile.NamedTemporaryFile("w", encoding="utf-8") as it:
-        it.write(ran.stdout)
-        it.flush()
-        return recorded(it.name)
-
-
-def names_at(since, name):
-    """Returns the names of the edits that a crate has at a commit."""
-    ran = subprocess.run(["git", "ls-tree", "--name-only", since, f"crates/{name}/edits/"], cwd=TOP, check=True, stdout=subprocess.PIPE, text=True)
-    return {os.path.basename(file) for file in ran.stdout.split()}
-
-
 def added_since(since):
-    """Returns for each crate whose text is that of a commit, but for edits that were added, these edits."""
-    known, found = recorded_at(since), {}
-    for name in changed():
-        old = names_at(since, name)
-        added = [edit for edit in edits_of(name) if os.path.basename(edit) not in old]
-        before = (digest_of(name, without=added), len(edits_of(name)) - len(added))
-        if added and known.get(name, before if not old else None) == before:
-            found[name] = added
+    """Returns for each crate whose text is that of a commit on which its edits were tried, but for the edits, those that don't stand there as
+    they do now."""
+    found = {}
+    with tempfile.TemporaryDirectory(prefix="edits-") as room:
+        unpack(since, room)
+        known = recorded(os.path.join(room, "tests", "edits.tried"))
+        for name in changed():
+            old = list(files_below(os.path.join(room, "crates", name, "edits")))
+            texts = {os.path.basename(edit): text_of(edit) for edit in old}
+            were_tried = known.get(name) == (digest_of(name, room), len(old))
+            if not old or were_tried and digest_of(name, room, old) == digest_of(name, without=edits_of(name)):
+                found[name] = [edit for edit in edits_of(name) if texts.get(os.path.basename(edit)) != text_of(edit)]
     return found

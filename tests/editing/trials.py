@@ -10,7 +10,7 @@ import threading
 from concurrent.futures import ThreadPoolExecutor
 
 from tests.editing.records import TOP, digest_of, edits_of, record, text_of
-from tests.editing.verdicts import SAID, faults_of, is_by_contract, is_own_refusal, kind_of, place_of_edit, without
+from tests.editing.verdicts import SAID, faults_of, is_by_contract, is_own_refusal, is_proved, kind_of, place_of_edit, without
 from tools.program import toolchain
 from tools.program.words import Failed
 
@@ -65,8 +65,10 @@ class Trial:
 
     flags = ["--jobs", "1"]
 
-    def __init__(self, rt, crate, kept, room, notes):
+    def __init__(self, rt, crate, kept, room, notes, asked=()):
         self.rt, self.crate, self.kept, self.room, self.notes = rt, crate, kept, room, notes
+        # what a check of one function is asked besides
+        self.asked = asked
         # (some kits say whether an edit is refused by a word, of which two mean yes, others by true and false)
         self.refusals = (rt.REFUSED, rt.AT_LIMIT) if hasattr(rt, "REFUSED") else (True,)
         self.free, self.made, self.lock = [], 0, threading.Lock()
@@ -87,9 +89,7 @@ class Trial:
         refused, text = (True, text.replace("must-fail ", "edit ", 1)) if verdict in self.refusals else self.try_whole(edit)
         with self.lock:
             self.free.append(copy)
-        function = refused and self.with_proof_files(edit)
-        if function:
-            refused, text = self.try_fitted(edit, function)
+        refused, text = self.judged(edit, refused, text)
         if refused:
             self.notes.note(edit)
         return refused, text
@@ -99,6 +99,11 @@ class Trial:
         verdict, text = self.rt.must_fail(self.crate, edit, self.flags)
         return verdict in self.refusals, text.replace("must-fail ", "edit ", 1)
 
+    def judged(self, edit, refused, text):
+        """Returns what came of an edit that a check refused, where the function that it changes has proof files: by more than these."""
+        function = refused and self.with_proof_files(edit)
+        return self.try_fitted(edit, function) if function else (refused, text)
+
     def with_proof_files(self, edit):
         """Returns the function that an edit changes where it has proof files, else None."""
         place, top = place_of_edit(self.crate, edit), os.path.join(self.crate.folder, "proofs")
@@ -106,22 +111,29 @@ class Trial:
         names = ["::".join([self.crate.name, *os.path.relpath(folder, top).split(os.sep)]) for folder in folders]
         return place and place.named(self.crate.name, names)
 
-    def try_fitted(self, edit, function):
+    def said_of(self, function, texts):
+        """What a check of one function says, over these texts of the crate."""
+        return self.rt.checked(self.crate, texts, [*self.flags, "--only", function.partition("::")[2], *self.asked], None).stdout
+
+    def try_fitted(self, edit, function, said=None):
         """Returns whether an edit is refused by more than proof files that don't fit it, or None where that can't be told; and a line.
-        It is tried again without their declarations that name what the edit took away."""
+        It is tried again, after a check of the function if one has said something already, without their declarations that name what
+        the edit took away."""
         texts, left_out = self.rt.edited(text_of(edit), self.crate.folder)[0], []
+        said = said or self.said_of(function, texts)
+        misfits, others = faults_of(said, function)
         for _ in range(ROUNDS):
-            said = self.rt.checked(self.crate, texts, [*self.flags, "--only", function.partition("::")[2]], None).stdout
-            misfits, others = faults_of(said, function)
             if others or not misfits:
                 break
             left_out += misfits
             for file in {file for file, _ in misfits}:
                 with open(os.path.join(self.crate.folder, file), encoding="utf-8") as it:
                     texts[file] = without(it.read(), {name for at, name in left_out if at == file})
+            said = self.said_of(function, texts)
+            misfits, others = faults_of(said, function)
         label = f"edit {self.crate.name}/{os.path.basename(edit)}"
         verdict = dict(SAID.findall(said)).get(function)
-        if verdict == "proved":
+        if is_proved(verdict):
             return False, f"{label}: NOT REFUSED: {function} is proved with this edit, without proofs that name what it took away"
         kinds, goals = {kind_of(name) for _, name in left_out}, OPEN_GOAL.findall(said)
         other = next((goal for goal in goals if kind_of(goal) not in kinds), None)

@@ -7,17 +7,27 @@ from tests.editing.records import text_of
 # What a check says of a function, and what it says where only a function that it calls isn't proved.
 SAID = re.compile(r"^fn (\S+): (.*)$", re.MULTILINE)
 CALLS_UNPROVED = "no proof: it calls "
-# What a check says of a proof file, by its name, and of which declaration; and how it says that this names what isn't there.
-IN_PROOFS = re.compile(r"^(?:\./)?(proofs/\S+?):\d+:\d+: error: (?:`([^`]+)`: )?(.*)$", re.MULTILINE)
-NAMES_NOTHING = re.compile(r"has no field|is not in scope|has no `|was not admitted")
+# What it says where the prover can't take the text, whatever its contract.
+OF_THE_PROVER = "a bug in rattle"
+# How a check with holes says that a function is proved but for them.
+BUT_FOR_HOLES = ("no holes", "depends on a hole in ")
+# What a check says of a proof file, by its name, and of which declaration, where its line goes on below with that; and how it says that
+# this names what isn't there.
+IN_PROOFS = re.compile(r"^(?:\./)?(proofs/\S+?):\d+:\d+: error: (?:`([^`]+)`: )?(.*(?:\n  \S.*)?)$", re.MULTILINE)
+NAMES_NOTHING = re.compile(r"has\s+no\s+field|is\s+not\s+in\s+scope|has\s+no\s+`|was\s+not\s+admitted")
 # A function's first line, and the first of what holds functions, in the layout of `rt fmt`.
 FUNCTION = re.compile(r"^( *)(?:pub(?:\([a-z]+\))? )?(?:const |unsafe |extern \"C\" )*fn (\w+)", re.MULTILINE)
 HOLDER = re.compile(r"^(?:pub(?:\([a-z]+\))? )?(?:impl|trait)\b([^{;]*)", re.MULTILINE)
 
 
+def is_proved(said):
+    """Whether what a check says of a function is that it is proved, or is but for holes, which stand for what was granted."""
+    return said is not None and (said == "proved" or said.startswith(BUT_FOR_HOLES))
+
+
 def is_own_refusal(said):
     """Whether what a check says of a function is that its own proof fails."""
-    return said is not None and said != "proved" and not said.startswith(CALLS_UNPROVED)
+    return said is not None and not is_proved(said) and not said.startswith(CALLS_UNPROVED) and OF_THE_PROVER not in said
 
 
 def faults_of(said, function):

@@ -15,7 +15,7 @@ sys.dont_write_bytecode = True
 TOP = pathlib.Path(__file__).resolve().parent.parent.parent
 if __name__ == "__main__":
     sys.path[:1] = [str(TOP), str(TOP / "python")]
-from tests.tools import fronted, test_front, test_front_keys, test_front_kills, test_front_log
+from tests.tools import fronted, test_front, test_front_keys, test_front_kills, test_front_log, test_front_sctp
 
 SETUP_REQUEST = bytes.fromhex("0011001f000003003b00080000f11000000010004000070000004000f1100089400140")
 TIMES = re.compile(r"(?m)^(?:# time|# segment|# settled|tick) .*\n|(?<= port )\d+")
@@ -36,6 +36,11 @@ class GivenToPhones(test_front_log.GivenToPhones):
 class Storms(test_front_kills.Storms):
     """The front killed again and again under phones."""
     program = fronted.LIBRARY
+
+
+class StormBySctp(test_front_sctp.Sctp):
+    """The same by the SCTP of a kernel."""
+    cases, variables = ("StormOfLibrary",), ("SOIZKADUR_LIBRARY",)
 
 
 class Same(unittest.TestCase):

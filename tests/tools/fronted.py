@@ -127,7 +127,11 @@ def events_of(text):
 
 
 class Running:
-    """A front that runs, in a folder of its own."""
+    """A front that runs, in a folder of its own; `front` is its program, where that is another, and `READY` what it says once it
+    does what it is for."""
+
+    READY = rb"ready: stations at \S+ port (\d+) by"
+    front = (tools.TOP / "tools" / "front",)
 
     def __init__(self, test, *words, head=HEAD, program=None, before=None, folder=None, link="--tcp", environment=()):
         self.folder = folder or pathlib.Path(test.enterContext(tempfile.TemporaryDirectory()))
@@ -139,7 +143,7 @@ class Running:
             program.chmod(0o755)
         given = ["run", self.subscribers, self.log, link, "--port", "0", "--per-address", "128", "--setup-seconds", "3600",
                  "--answer-seconds", "120", *(["--library"] if program is LIBRARY else ["--mme", program]), *words]
-        self.process = subprocess.Popen([sys.executable, tools.TOP / "tools" / "front", *map(str, given)], stderr=subprocess.PIPE,
+        self.process = subprocess.Popen([sys.executable, *map(str, [*self.front, *given])], stderr=subprocess.PIPE,
                                         preexec_fn=before, env={**os.environ, **dict(environment)})
         self.told, self.connections = b"", []
         test.addCleanup(self.end)
@@ -147,10 +151,15 @@ class Running:
         limit.start()
         for line in self.process.stderr:
             self.told += line
-            if found := re.search(rb"ready: stations at \S+ port (\d+) by", line):
-                self.port = int(found[1])
+            if self.is_ready(line):
                 break
         limit.cancel()
+
+    def is_ready(self, line):
+        """Whether it says so in this line."""
+        found = re.search(self.READY, line)
+        self.port = int(found[1]) if found and found.lastindex else None
+        return bool(found)
 
     def said(self):
         """What it said so far."""

@@ -598,19 +598,53 @@ class Whole(unittest.TestCase):
         self.passes()
         self.phone.leaves()
 
-    def test_gateway_killed_at_each_step(self):
-        """Of an attach; the phone has its tunnel in the end, and not before its station's response."""
-        self.phone.detaches()
-        self.phone.at(None)
-        b = next(self.world.b)
-        for number, step in enumerate(self.phone.attach_steps(self.world.stations[0], b)):
+    def killed_at_each_step(self, steps, response, b):
+        """The gateway is killed after each step; the phone has its tunnel from its station's response on, the step of this number,
+        and not before."""
+        for number, step in enumerate(steps):
             step()
             self.world.end_gateway()
             self.world.begin_gateway()
-            self.assertEqual(bool(self.world.tunnels_of(self.phone)), number >= 3)
+            if number < response:
+                self.assertEqual(self.world.tunnels_of(self.phone), [])
+            else:
+                self.world.is_tunnel(self.phone, 0, b)
         self.phone.at(0, b)
-        self.world.is_tunnel(self.phone, 0, b)
         self.passes()
+
+    def test_gateway_killed_at_each_step(self):
+        """Of an attach."""
+        self.phone.detaches()
+        self.phone.at(None)
+        b = next(self.world.b)
+        self.killed_at_each_step(self.phone.attach_steps(self.world.stations[0], b), 3, b)
+
+    def test_gateway_killed_at_each_step_of_a_service_request(self):
+        self.phone.leaves()
+        b = next(self.world.b)
+        steps = lambda: self.phone.asks_for_service(self.world.stations[0], b), self.phone.context_is_set_up
+        self.killed_at_each_step(steps, 1, b)
+
+    def test_gateway_killed_at_each_step_of_a_path_switch(self):
+        """Before the acknowledgement is awaited, before the tunnel is, and then: it leads to the new station in the end."""
+        live, owe = self.world.live, self.world.live.owe
+        self.addCleanup(setattr, live, "owe", owe)
+        for step in range(3):
+            number, b = (step + 1) % 2, next(self.world.b)
+            if step == 0:
+                live.owe = lambda *owed: (self.world.end_gateway(), owe(*owed))
+            if step < 2:
+                self.phone.switches_path(self.world.stations[number], b)
+                self.phone.at(number, b)
+                live.owe = owe
+            else:
+                self.phone.moves(number, b)
+            if step > 0:
+                self.world.end_gateway()
+            self.world.begin_gateway()
+            self.world.is_tunnel(self.phone, number, b)
+            self.passes()
+        self.phone.leaves()
 
     def test_second_gateway(self):
         """With the address or the name of one that runs it doesn't begin, and the first goes on."""
@@ -657,6 +691,16 @@ class Ends(unittest.TestCase):
             phone.is_gone()
             phone.at(None)
 
+    def front_killed_and_back(self):
+        """Kills the front, and begins it again: no phone has a tunnel then."""
+        self.world.end_front(signal.SIGKILL)
+        self.are_gone()
+        self.world.begin_front("--resume")
+        for number in range(2):
+            self.world.join(number)
+        for phone in (self.phone, self.other):
+            self.world.is_tunnel(phone, None)
+
     def passes(self):
         self.assertEqual(echoes(NET, self.phone.ip), 3)
         self.assertEqual(echoes(self.phone.name, INTERNET), 3)
@@ -692,19 +736,6 @@ class Ends(unittest.TestCase):
         self.world.is_tunnel(self.phone, 0, self.phone.b)
         self.passes()
 
-    def test_3_front_killed_before_a_tunnel(self):
-        """Between the request and the response: there is no tunnel, and none comes of the response."""
-        self.both_attach()
-        self.phone.leaves()
-        self.phone.asks_for_service(self.world.stations[0], next(self.world.b))
-        self.world.end_front(signal.SIGKILL)
-        self.are_gone()
-        self.world.begin_front("--resume")
-        for number in range(2):
-            self.world.join(number)
-        for phone in (self.phone, self.other):
-            self.world.is_tunnel(phone, None)
-
     def test_3_front_killed_at_each_step(self):
         """Of an attach: whatever came of it, there is no tunnel until the phone has attached anew."""
         self.both_attach()
@@ -713,14 +744,34 @@ class Ends(unittest.TestCase):
             self.phone.at(None)
             for step in list(self.phone.attach_steps(self.world.stations[0], next(self.world.b)))[:count]:
                 step()
-            self.world.end_front(signal.SIGKILL)
-            self.are_gone()
-            self.world.begin_front("--resume")
-            for number in range(2):
-                self.world.join(number)
-            for phone in (self.phone, self.other):
-                self.world.is_tunnel(phone, None)
+            self.front_killed_and_back()
         self.phone.joins(0, next(self.world.b))
+        self.passes()
+
+    def test_3_front_killed_at_each_step_of_a_service_request(self):
+        """Between the request and the station's response, and after it: there is no tunnel until the phone comes again."""
+        for count in (1, 2):
+            self.both_attach()
+            self.phone.leaves()
+            self.phone.asks_for_service(self.world.stations[0], next(self.world.b))
+            if count == 2:
+                self.phone.context_is_set_up()
+            self.front_killed_and_back()
+        self.both_attach()
+        self.passes()
+
+    def test_3_front_killed_at_each_step_of_a_path_switch(self):
+        """Once the request is sent, and once it is acknowledged: there is no tunnel until the phone comes again."""
+        live, station = self.world.live, self.world.stations[1]
+        for is_acknowledged in (False, True):
+            self.both_attach()
+            b = next(self.world.b)
+            if is_acknowledged:
+                self.phone.switches_path(station, b)
+            else:
+                live.hear(station, lte.path_switch_request(live.network, station, self.phone.m, b, self.phone.capability))
+            self.front_killed_and_back()
+        self.both_attach()
         self.passes()
 
     def test_4_front_killed(self):

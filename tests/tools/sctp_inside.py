@@ -4,7 +4,7 @@ own, by SCTP, and by TCP where one vanishes. Writes into a file, by each test's 
 as soon as that is known. Tests that stand there already aren't run again. Where none has ended for minutes, it says where each
 thread stands, and ends.
 
-    sctp_inside.py RESULTS
+    sctp_inside.py RESULTS CASE ..
 """
 import contextlib
 import faulthandler
@@ -324,15 +324,25 @@ class Front(unittest.TestCase):
         running.until(lambda: ours.take() or ours.has_ended)
         self.assertTrue(ours.is_cut)
 
+class Storm(unittest.TestCase):
+    """A short storm of phones while the front is killed and begun again (bench/kills.py): nothing is used twice."""
+
+    program = PROGRAM  # of the front
+
     @unittest.skipUnless(PROGRAM.exists(), "the program isn't built (./mme --prove)")
     def test_kills(self):
-        """A short storm of phones while the front is killed and begun again (bench/kills.py): nothing is used twice."""
         given = kills.parser().parse_args("--sctp --runs 2 --run-seconds 3 --phones 5 --vectors 6 --ends kill clean".split())
-        given.mme, said = PROGRAM, []
+        given.mme, said = self.program, []
         with tempfile.TemporaryDirectory() as folder:
             storm = kills.Storm(given, folder, said.append)
             self.assertEqual(storm.blow(), 0, "\n".join(said))
         self.assertEqual(storm.counted["beginnings that went on"], 2, "\n".join(said))
+
+
+class StormOfLibrary(Storm):
+    """The same with the shared object that SOIZKADUR_LIBRARY names, for tests/library/test_fronting.py."""
+
+    program = wire.LIBRARY
 
 
 class ByTcp(unittest.TestCase):
@@ -395,8 +405,9 @@ def name_of(test):
     return test.id().split(".")[-1]
 
 
-def all_tests():
-    return [test for case in (Front, ByTcp) for test in unittest.defaultTestLoader.loadTestsFromTestCase(case)]
+def all_tests(cases):
+    """Those of the cases of these names."""
+    return [test for case in cases for test in unittest.defaultTestLoader.loadTestsFromTestCase(globals()[case])]
 
 
 def main():
@@ -404,7 +415,7 @@ def main():
     lay_addresses()
     faulthandler.dump_traceback_later(STUCK, exit=True)
     result = Named(path)
-    tests = [test for test in all_tests() if name_of(test) not in result.found]
+    tests = [test for test in all_tests(sys.argv[2:]) if name_of(test) not in result.found]
     # Those that wait for a peer to be missed run beside the others.
     waiting = [threading.Thread(target=test.run, args=(result,)) for test in tests if "vanished" in name_of(test)]
     for thread in waiting:

@@ -203,6 +203,49 @@ class Unit(unittest.TestCase):
             self.assertEqual(played.stdout, done.stdout * (count + 1))
 
 
+class Standby(unittest.TestCase):
+    """What deploy/standby adds to the unit; test_front_etcd sets members of etcd and fronts up by its files."""
+
+    FOLDER = tools.TOP / "deploy" / "standby"
+
+    def words(self):
+        """Of 01.environment, as systemd reads them."""
+        [words] = re.findall(r"^WORDS=((?:.*\\\n)*.*)", (self.FOLDER / "01.environment").read_text(), re.MULTILINE)
+        return words.replace("\\\n", " ")
+
+    def credentials(self):
+        """The files that the service may read, by the places where it finds them."""
+        pairs = re.findall("^LoadCredential=(.*):(.*)$", (self.FOLDER / "store.conf").read_text(), re.MULTILINE)
+        return {"/run/credentials/soizkadur@01.service/" + name: path for name, path in pairs}
+
+    def test_words(self):
+        """The front takes them. Each file that they name is one of the credentials, and by the commands it is there."""
+        _, *words = front_words(runtime="/run", state="/var/lib", address="198.51.100.1", words=self.words())
+        given = command.parser("").parse_args(words)
+        self.assertEqual((given.store.count("https://"), given.standby, given.store_user), (3, True, "mme"))
+        self.assertEqual({given.store_ca, given.store_cert, given.store_password}, set(self.credentials()))
+        text = (self.FOLDER / "01.environment").read_text()
+        [(place, names)] = re.findall("sudo install .* -t (/etc/soizkadur/store) (.*)$", text, re.MULTILINE)
+        self.assertEqual({"%s/%s" % (place, pathlib.Path(name).name) for name in names.split()}, set(self.credentials().values()))
+
+    def test_address(self):
+        """What asks the page who leads asks where the page is, and knows what it says."""
+        text = (self.FOLDER / "keepalived.conf").read_text()
+        self.assertIn("http://%s/health" % re.search(r"--page (\S+)", self.words())[1], text)
+        self.assertIn("grep -q serves", text)
+
+    @unittest.skipUnless(shutil.which("systemd-analyze"), "no systemd-analyze")
+    def test_verify(self):
+        """The unit with what is added."""
+        with tempfile.TemporaryDirectory() as folder:
+            unit, more = pathlib.Path(folder, UNIT.name), pathlib.Path(folder, UNIT.name + ".d")
+            unit.write_text(UNIT.read_text().replace(INSTALLED + "tools", str(tools.TOP / "tools")))
+            more.mkdir()
+            shutil.copy(self.FOLDER / "store.conf", more)
+            done = subprocess.run(["systemd-analyze", "verify", unit], capture_output=True, timeout=60, check=False)
+        self.assertEqual((done.returncode, done.stdout, done.stderr), (0, b"", b""))
+
+
 class Gateway(unittest.TestCase):
     """The unit of the gateway."""
 

@@ -43,26 +43,37 @@ class Edits(unittest.TestCase):
         self.write("crates/low/src/lib.rt", "fn count() -> u64 { one + 1 }\n")
         self.assertEqual(records.changed(), ["low"])
 
+    def added(self):
+        return {name: [pathlib.Path(edit).name for edit in edits] for name, edits in records.added_since("HEAD").items()}
+
     def test_added(self):
-        """Of a crate with more edits than at the commit the new ones alone are left to try."""
+        """Of a crate with other edits than at the commit those alone are left to try that didn't stand there so."""
         self.write("crates/low/edits/second.edit", EDIT)
-        found = records.added_since("HEAD")
-        self.assertEqual({name: [pathlib.Path(edit).name for edit in edits] for name, edits in found.items()}, {"low": ["second.edit"]})
+        self.assertEqual(self.added(), {"low": ["second.edit"]})
+        self.write("crates/low/edits/first.edit", "# another\n" + EDIT)
+        self.assertEqual(self.added(), {"low": ["first.edit", "second.edit"]})
 
     def test_added_beside_another_change(self):
         """Where something else changed too, an edit more says nothing of those that were tried."""
-        for file, text in (("src/lib.rt", "fn count() -> u64 { one + 1 }\n"), ("specs/Lib.antt", "one : N\n"), ("edits/first.edit", EDIT + "# a\n")):
+        for file, text in (("src/lib.rt", "fn count() -> u64 { one + 1 }\n"), ("specs/Lib.antt", "one : N\n")):
             with self.subTest(file):
                 subprocess.run(["git", "checkout", "-q", "."], cwd=self.top, check=True)
                 self.write("crates/low/edits/second.edit", EDIT)
                 self.write("crates/low/" + file, text)
-                self.assertEqual(records.added_since("HEAD"), {})
+                self.assertEqual(self.added(), {})
                 (self.top / "crates" / "low" / file).unlink()
 
+    def test_added_to_what_was_not_tried(self):
+        """Nor does it where those of the commit weren't tried on its text."""
+        self.write("crates/low/src/lib.rt", "fn count() -> u64 { one + 1 }\n")
+        subprocess.run(["git", "-c", "user.name=a", "-c", "user.email=a@b", "commit", "-q", "-a", "-m", "another"], cwd=self.top, check=True)
+        self.write("crates/low/edits/second.edit", EDIT)
+        self.assertEqual(self.added(), {})
+
     def test_taken_away(self):
-        """Nor where an edit that was tried is gone."""
+        """An edit that is gone leaves the others as they were tried; under another name it is tried again."""
         (self.top / "crates" / "low" / "edits" / "first.edit").rename(self.top / "crates" / "low" / "edits" / "second.edit")
-        self.assertEqual(records.added_since("HEAD"), {})
+        self.assertEqual(self.added(), {"low": ["second.edit"]})
         self.assertEqual(records.changed(), ["low"])
 
     def test_renamed(self):
@@ -102,6 +113,11 @@ reader.BitReader.align.Goals` has no `returns-then-self-ne0` that can be named f
 no field `if-self-ne0` (nearest: .if-self-eq1, .self)
   the fields that can be named here are `before`, `self-1`, `if-self-eq1`, `self`, `args`
 ./proofs/reader/BitReader/align/Answers.antt:11:5: note: `rw` rewrote the goal (in `returns`)
+"""
+BY_A_LONG_NAME = """\
+./proofs/reader/BitReader/align/Answers.antt:4:29: error: `returns-then-self-ne0`: `goal.returns-then-self-ne0`: module `Rattle.low.proofs.\
+reader.BitReader.align.Goals`
+  has no `returns-then-self-ne0` that can be named from here
 """
 BY_TYPE = """\
 ./proofs/reader/BitReader/align/Answers.antt:6:6: error: `returns-then-self-ne0`: computed as far as they go, the two types differ only \
@@ -164,6 +180,7 @@ class Fitting(unittest.TestCase):
     def test_first_check(self):
         """That answers name what isn't there is no refusal by the contract, whatever else stays open for it."""
         for said, is_by_contract in ((BY_NAME, False), (BY_NAME + OPEN_RETURNS, False), (BY_TYPE, True), (BY_NAME + BY_TYPE, True),
+                                     (BY_A_LONG_NAME, False), (BY_A_LONG_NAME + BY_TYPE, True),
                                      (OPEN_INVARIANT, True), (BY_NAME.replace("/align/", "/end/"), True)):
             self.assertEqual(verdicts.is_by_contract(said, ALIGN), is_by_contract, said)
 
@@ -188,6 +205,12 @@ class Fitting(unittest.TestCase):
         """What was said before a check broke off is no refusal."""
         for words in ([""], [OPEN_RETURNS], ["%sfn %s: %s" % (BY_NAME, ALIGN, NOT_PROVED), OPEN_INVARIANT]):
             self.assertIsNone(self.fitted(*words)[0], words)
+
+    def test_what_the_prover_cannot_take(self):
+        """A text that it can't take isn't refused by its contract."""
+        for said in ("no proof: it calls `low::one`, which is not proved", "not proved; a bug in rattle leaves only a proof by hand", "proved",
+                     "no holes", None):
+            self.assertFalse(verdicts.is_own_refusal(said), said)
 
     def test_verdicts(self):
         """Refused by an answer that fits, or by a goal of another kind than the answers that are left out; proved; or not told."""

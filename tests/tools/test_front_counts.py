@@ -257,6 +257,7 @@ class Told(Served):
         values = self.values()
         for name, value in (("segments", 1), ("segments_share", 0.25), ("whole", 1)):
             self.assertEqual(values['soizkadur_log_%s{of="what counts"}' % name], value)
+        self.assertEqual(running.asks("phones").splitlines()[1:], ["log whole=True segments_share=0.25"])
         for number in range(1, 5):
             running.process.send_signal(signal.SIGHUP)
             running.until(lambda: running.log.with_name("log.counts.segment.%06d" % number).exists())
@@ -267,5 +268,6 @@ class Told(Served):
         self.assertEqual((values['soizkadur_log_segments{of="what counts"}'], values['soizkadur_alarm{of="what counts"}']), (4, 1))
         counts = json.loads(running.asks("counters", "--json"))["log"]["what counts"]
         self.assertEqual(counts, {"segments": 4, "segments_kept": 4, "share": 1.0, "whole": False})
+        self.assertEqual(running.asks("phones").splitlines()[1:], ["log whole=False segments_share=1.0"])
         self.assertIn("isn't whole since the start", self.get("/")[0].replace("&#x27;", "'"))
         self.assertEqual(running.said().count(b"segments of %s.counts are used" % bytes(running.log)), 1)

@@ -132,6 +132,7 @@ class FullDisk(unittest.TestCase):
             self.assertEqual(station.says(bytes([number]) * 3000), bytes([number]) * 3000)
         running.until(lambda: b"the run goes on without a log" in running.said())
         self.assertIn("fault the log isn't whole since the start", give(running, OTHER_SUB))
+        self.assertEqual(running.asks("phones").splitlines()[-1], "no log")
         self.assertEqual(running.stop()[0], 0)
 
     def test_refuse(self):
@@ -502,7 +503,8 @@ class ControlSocket(unittest.TestCase):
         self.assertEqual(running.station().says(b"here"), b"here")
         self.assertRegex(running.asks("stations"),
                          r"^station=0 address=127\.0\.0\.1 port=\d+ set_up=False .*messages_in=1 messages_out=1")
-        self.assertEqual(running.asks("phones"), "%s DEREGISTERED IDLE INACTIVE vectors_left=0\n" % IMSI)
+        self.assertRegex(running.asks("phones"),
+                         r"^%s DEREGISTERED IDLE INACTIVE vectors_left=0\nlog whole=True segments_share=[\d.]+\n$" % IMSI)
         self.assertIn("connections: 1\n", running.asks("counters"))
         self.assertIn('"connections": 1', running.asks("counters", "--json"))
         self.assertNotIn("show", running.log.read_text())

@@ -2,13 +2,12 @@
 import shutil
 import signal
 import tempfile
-import time
 import unittest
 
 from tests.tools.fronted import PROGRAM
 from tests.tools.power import Field
 
-CUTS, LEAST_CUTS, SECONDS = 30, 8, 45  # as many as go in this time, where the machine is busy
+CUTS = 30
 PHONES, MOST_STEPS = 5, 8
 
 
@@ -20,10 +19,8 @@ class PowerCuts(unittest.TestCase):
     def test_freshness(self):
         """Over many power cuts no challenge, no NAS COUNT and no radio key comes twice, what was accepted isn't accepted again, and
         the phones' registration stays."""
-        field, replays, end = self.field(1), 0, time.monotonic() + SECONDS
+        field, replays = self.field(1), 0
         for number in range(CUTS):
-            if number >= LEAST_CUTS and time.monotonic() > end:
-                break
             field.start()
             self.assertIn(b"goes on" if number else b"", field.running.told)
             replays += field.replay()

@@ -1,5 +1,6 @@
 """tools/front over real SCTP: the tests of sctp_inside.py, each by its name, under a kernel that has SCTP (kernel/)."""
 import json
+import os
 import pathlib
 import shlex
 import sys
@@ -15,12 +16,15 @@ INSIDE = tools.TOP / "tests" / "tools" / "sctp_inside.py"
 
 @unittest.skipIf(kernel.missing(), "no user-mode-linux, kmod, iproute2, lksctp-tools or C compiler")
 class Sctp(unittest.TestCase):
+    cases, variables = ("Front", "Storm", "ByTcp"), ()  # those that are run, and what they are told of this environment
+
     def test_inside(self):
-        names, found = {sctp_inside.name_of(test) for test in sctp_inside.all_tests()}, {}
+        names, found = {sctp_inside.name_of(test) for test in sctp_inside.all_tests(self.cases)}, {}
         with tempfile.TemporaryDirectory() as folder:
             script, results = pathlib.Path(folder, "script"), pathlib.Path(folder, "results")
-            script.write_text("cd %s && TMPDIR=/run PYTHONDONTWRITEBYTECODE=1 %s %s %s\n" % tuple(
-                shlex.quote(str(word)) for word in (tools.TOP, sys.executable, INSIDE, results)))
+            told = ["%s=%s" % (name, os.environ[name]) for name in self.variables]
+            script.write_text("cd %s && %s\n" % (shlex.quote(str(tools.TOP)), shlex.join(map(str, (
+                "env", "TMPDIR=/run", "PYTHONDONTWRITEBYTECODE=1", *told, sys.executable, INSIDE, results, *self.cases)))))
             for _ in range(KERNELS):
                 shown = kernel.run(script, SECONDS)
                 found = json.loads(results.read_text()) if results.exists() else {}

@@ -93,14 +93,15 @@ class Granted(OfCrate):
 class Verdicts(OfCrate):
     """What try_guards_of makes of what a check says of the function."""
 
-    def tried(self, said, status=1, last="only=1 holes=1"):
+    def tried(self, *said, status=1, last="only=1 holes=1"):
+        """What comes of a guard, where the checks of its function say this one after the other."""
         guard = pathlib.Path(self.crate.folder, "guards", "less.edit")
         self.write(guard, "file: src/lib.rt\nonly: left\nold: item.is_left()\nnew: true\n")
-        seen = []
+        self.seen, words = [], iter(said)
 
         def checked(crate, texts, flags, kept):
-            seen.append((texts, flags, kept))
-            return types.SimpleNamespace(returncode=status, stdout="%s\n%s\n" % (said, last))
+            self.seen.append((dict(texts), flags, kept))
+            return types.SimpleNamespace(returncode=status, stdout="%s\n%s\n" % (next(words), last))
 
         def edited(text, folder):
             source = pathlib.Path(folder, "src", "lib.rt").read_text(encoding="utf-8")
@@ -108,9 +109,10 @@ class Verdicts(OfCrate):
 
         rt = types.SimpleNamespace(checked=checked, edited=edited, unread=lambda line, texts: False)
         (refused, text), = guards.try_guards_of(rt, self.crate, [str(guard)])
-        (texts, flags, kept), = seen
-        self.assertEqual((flags[-3:], kept), (["--only", "left", "--allow-holes"], None))
-        self.assertIn("    true\n}\n\nfn plain(\n    item: &Item,\n) -> bool {\n    unreachable!()\n}\n", texts["src/lib.rt"])
+        self.assertEqual(len(self.seen), len(said))
+        for texts, flags, kept in self.seen:
+            self.assertEqual((flags[-3:], kept), (["--only", "left", "--allow-holes"], None))
+            self.assertIn("    true\n}\n\nfn plain(\n    item: &Item,\n) -> bool {\n    unreachable!()\n}\n", texts["src/lib.rt"])
         return refused, text.partition(": ")[2].partition(":")[0]
 
     def test_refused(self):
@@ -120,6 +122,22 @@ class Verdicts(OfCrate):
     def test_proved_but_for_holes(self):
         for said in ("no holes", "depends on a hole in `Rattle.kept.proofs.Anything.anything`", "proved"):
             self.assertEqual(self.tried("fn kept::left: " + said), (False, "NOT REFUSED"), said)
+
+    def test_proof_files_that_do_not_fit(self):
+        """Where its own proof files alone refuse a guard, since they name what it took away, it is tried without what doesn't fit."""
+        answers = pathlib.Path(self.crate.folder, "proofs", "left", "Answers.antt")
+        self.write(answers, "pub returns : goal.returns\nreturns c = c.is_left\n")
+        misfit = "./proofs/left/Answers.antt:2:13: error: `returns`: record `After` has no field `is_left`\nfn kept::left: not proved"
+        goal = "note: src/lib.rt:4:5: it is not proved that what the function ensures holds when it returns (`%s`)\nfn kept::left: not proved"
+        for said, verdict in (("fn kept::left: no holes", False), (goal % "returns", None), (goal % "overflow_add", True)):
+            with self.subTest(said):
+                self.assertEqual(self.tried(misfit, said)[0], verdict)
+                self.assertEqual(self.seen[1][0]["proofs/left/Answers.antt"], "")
+
+    def test_proof_files_that_fit(self):
+        """An answer that fits and proves nothing refuses it at once."""
+        fault = "./proofs/left/Answers.antt:2:13: error: `returns`: computed as far as they go, the two types differ\nfn kept::left: not proved"
+        self.assertEqual(self.tried(fault)[0], True)
 
     def test_not_tried(self):
         self.assertEqual(self.tried("fn kept::plain: no holes"), (False, "NOT TRIED"))

@@ -462,7 +462,7 @@ class Shell(Sources):
             [*self.lines[:2], "unknown " + NOBODY], ""))
         found, said = self.answers(*["vectors %s %d 001 01" % (IMSI, count) for count in (4, 3, 1)])
         self.assertEqual(found, ["later " + IMSI, *self.lines[2:], "later " + IMSI])
-        self.assertEqual(said.count("not to be had: vectors"), 2)
+        self.assertEqual(said.count("can't be supplied: vectors"), 2)
 
     def test_what_it_can_not(self):
         found, said = self.answers("vectors %s 1 310 410" % IMSI, "vectors %s 1 001 01 %s %s" % (IMSI, "00" * 16, "00" * 14),

@@ -49,6 +49,13 @@ class Census:
             self.is_asking = True
             self.front.aside.do(self.ask)
 
+    def answer(self):
+        """Answers who waits by the states that were told last."""
+        self.forget()
+        wishes, self.wishes = self.wishes, {}
+        for _, done in wishes.values():
+            done()
+
     def forget(self):
         """Forgets who has gone."""
         self.wishes = {wish: (is_wanted, done) for wish, (is_wanted, done) in self.wishes.items() if is_wanted()}

@@ -12,6 +12,7 @@ import time
 from tools import runs, versions
 
 from tools.fronting import limits
+from tools.fronting.etcd import access_of
 from tools.fronting.exchange import END, GO_ON, REFUSE
 from tools.fronting.faults import WRONG, told
 from tools.fronting.front import Front
@@ -40,6 +41,7 @@ def run(given):
     try:
         if given.anew and not given.resume:
             raise runs.Fault("--anew goes with --resume")
+        read_store(given)
         octets = runs.read_file(given.subscribers)
         given.subscribers = "standard input" if given.subscribers == "-" else given.subscribers
         head = read_head(octets, given.subscribers, given.code)
@@ -47,7 +49,7 @@ def run(given):
         with contextlib.ExitStack() as after:
             after.enter_context(contextlib.closing(Lock(given.log)))
             used = after.enter_context(contextlib.closing(UsedVectors(given.log + LOG_END)))
-            listener, link = listener_of(given.listen, given.port, given.tcp)
+            listener, link = listener_of(given.listen, given.port, given.tcp, listens=given.store is None)
             after.enter_context(listener)
             control = after.enter_context(contextlib.closing(ControlSocket(given.control)))
             page = None
@@ -62,6 +64,22 @@ def run(given):
         return status
     finally:
         voice.close()
+
+
+def read_store(given):
+    """The words on a store become the way into it."""
+    of_store = {"--store-ca": given.store_ca, "--store-cert": given.store_cert, "--store-user": given.store_user,
+                "--store-password": given.store_password, "--standby": given.standby}
+    if given.store is None:
+        for word in (word for word, value in of_store.items() if value):
+            raise runs.Fault("%s goes with --store" % word)
+        return
+    for word, is_other in (("--anew", given.anew), ("--log-keys no", given.log_keys == NO), ("--sync no", given.sync == NO),
+                           ("--full-disk " + GO_ON, given.full_disk == GO_ON)):
+        if is_other:
+            raise runs.Fault("%s is of a log in files, and not in a store" % word)
+    given.resume = False  # of the files; the log in the store is always gone on with
+    given.store = access_of(given.store.split(","), given.store_ca, given.store_cert, given.store_user, given.store_password)
 
 
 # --- Asking ---
@@ -90,7 +108,12 @@ def question(given):
     if given.word in OF_FILE:
         octets = runs.read_file(given.more[0])
         return b"give %d\n" % len(octets) + octets
-    return " ".join([given.word, *given.more]).encode() + b"\n"
+    return " ".join([given.word, *given.more]).encode() + (b"\ncounters\n" if wants_log(given) else b"\n")
+
+
+def wants_log(given):
+    """Whether the log's health is told below what is asked for: below the phones, but not in their JSON, which has an IMSI for each."""
+    return given.word == "phones" and not given.json
 
 
 def table(word, found):
@@ -105,6 +128,14 @@ def table(word, found):
     return "".join(versions.visible(line) + "\n" for line in lines)
 
 
+def log(found):
+    """The health of a log, by what is counted of each of its series."""
+    if not found:
+        return "no log"
+    return "log whole=%s segments_share=%s" % (all(one["whole"] for one in found.values()), max(
+        one["share"] for one in found.values()))
+
+
 def ask(given):
     """Asks a front that runs."""
     try:
@@ -113,7 +144,9 @@ def ask(given):
             asking.settimeout(limits.GIVING_SECONDS + limits.HOLD_SECONDS)
             try:
                 asking.sendall(octets)
-                answer = asking.makefile(encoding="utf-8", errors="replace", newline="\n").readline()
+                answers = asking.makefile(encoding="utf-8", errors="replace", newline="\n")
+                answer = answers.readline()
+                counters = answers.readline() if wants_log(given) else ""
             except OSError as fault:
                 raise runs.Fault("%s: %s" % (given.control, told(fault))) from None
         if not answer:
@@ -126,9 +159,11 @@ def ask(given):
     word, _, rest = answer.partition(" ")
     if word in OF_FRONT and not given.json:
         print(table(word, json.loads(rest)), end="")
+        if wants_log(given):
+            print(log(json.loads(counters.partition(" ")[2] or "{}").get("log")))
     else:
         print(versions.visible((rest if word in OF_FRONT else answer).removesuffix("\n")))
-    return 0 if word.strip() in ("taken", "state", "tunnel", "given", "serves", *OF_FRONT) else 1
+    return 0 if word.strip() in ("taken", "state", "tunnel", "given", "serves", "follows", *OF_FRONT) else 1
 
 
 # --- A log without keys ---
@@ -249,6 +284,18 @@ def add_log(words):
                        help="the form of its messages on standard error")
 
 
+def add_store(words):
+    """The words on a log in a store."""
+    words.add_argument("--store", metavar="URL,..", help="keep the log in etcd, by the members at these places, such as "
+                       "http://192.0.2.11:2379, in place of files")
+    words.add_argument("--standby", action="store_true", help="with --store: lead only once no other front has written a turn "
+                       "for %d s; without it, lead at once" % limits.SILENCE_SECONDS)
+    words.add_argument("--store-ca", metavar="FILE", help="who signs for the store's members, by https")
+    words.add_argument("--store-cert", metavar="FILE", help="the front's own certificate and its key, by https")
+    words.add_argument("--store-user", metavar="NAME", help="a user of etcd")
+    words.add_argument("--store-password", metavar="FILE", help="a file whose first line is that user's password")
+
+
 def parser(description):
     form = {"formatter_class": argparse.RawDescriptionHelpFormatter, "allow_abbrev": False}
     words = argparse.ArgumentParser(description=description,
@@ -260,6 +307,7 @@ def parser(description):
     live.add_argument("log", metavar="LOG", help="the file that gets the trace")
     add_interface(live)
     add_log(live)
+    add_store(live)
     live.add_argument("--code", metavar="HEX", help="refuse SUBSCRIBERS whose MME code isn't this one")
     live.add_argument("--answer-seconds", type=seconds, default=limits.ANSWER_SECONDS, metavar="SECONDS",
                       help="that the MME may owe an answer, default %d; then the front ends with status 76" % limits.ANSWER_SECONDS)

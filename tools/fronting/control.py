@@ -10,6 +10,8 @@ from tools.fronting.guests import Door
 WORDS = {"data": 1, "cancel": 1, "show": 1, "give": 1, "stations": 0, "phones": 0, "counters": 0, "health": 0, "bearers": 0,
          "tunnel": 1, "release": 3, "traffic": 1}
 LENGTHS = {b"give": limits.LONGEST_GIVEN, b"traffic": limits.LONGEST_TRAFFIC}  # octets that may follow such a line
+OF_STANDBY = "stations", "phones", "counters", "health"  # what a front answers that only follows the log in a store
+NOT_LEADING = "refused: this front stands by, and another one leads"
 NOBODY = "refused %d: %s" % (runs.UNKNOWN_IMSI, runs.REFUSALS[runs.UNKNOWN_IMSI])
 
 
@@ -17,7 +19,7 @@ class Control:
     """Answers those who ask, each line after the one before."""
 
     def __init__(self, front, listener):
-        self.front = front
+        self.front, self.answered = front, WORDS  # the second has the words that aren't refused for now
         self.busy = weakref.WeakSet()  # guests whose line isn't answered yet, and those that follow the tunnels
         self.door = Door(front.loop, listener, limits.MOST_ASKING, limits.LONGEST_GIVEN + limits.LONGEST_ASKED,
                          limits.ASKING_SECONDS, self.take)
@@ -59,7 +61,9 @@ class Control:
 
         try:
             word, fields = runs.fields_of(line, WORDS)
-            if word in ("data", "cancel", "show"):
+            if word not in self.answered:
+                reply(NOT_LEADING)
+            elif word in ("data", "cancel", "show"):
                 self.tell_mme(word, runs.imsi_of(fields[0]), reply)
             elif word.encode() in LENGTHS:
                 self.take_text(guest, word, text, reply)
@@ -68,7 +72,7 @@ class Control:
             elif word in ("tunnel", "release"):
                 reply(self.of_tunnel(word, *fields))
             elif word == "health":
-                self.front.exchange.ask([], None, lambda: reply("serves"))
+                self.front.exchange.ask([], None, lambda: reply("serves" if self.answered is WORDS else "follows"))
             elif word == "phones":
                 status.phones(self.front, lambda: guest.is_open, lambda told: reply("phones " + told))
             else:

@@ -17,13 +17,13 @@ from tools import runs
 
 from tools.fronting import bearers, limits
 from tools.fronting.challenges import AUTHENTICATION_REQUEST_DIGITS, challenged
-from tools.fronting.faults import BABBLES, Ended, Failed, LOG_FAILS, SILENT, told
+from tools.fronting.faults import BABBLES, Ended, Failed, LOG_FAILS, SILENT, Unheld, told
 from tools.fronting.journal import Batch
 from tools.fronting.meters import CONTEXT_REQUEST, DOWNLINK, ERROR_INDICATION, RESET_ACKNOWLEDGE, SETUP_RESPONSE
 from tools.fronting.mme import MARK_ANSWER
 from tools.fronting.used import entry_of
 
-OUT, PHONE_OWNER, OWNERS = b"out ", ord("s"), b"esx"
+OUT, STATE, PHONE_OWNER, OWNERS = b"out ", b"state ", ord("s"), b"esx"
 OUT_OF_PHONE = OUT + b"s"
 NO_OCTETS = b"-"
 NUMBERS = {b"%d" % number: number for number in range(runs.STATIONS)}
@@ -152,19 +152,25 @@ class Exchange:
 
     def replay(self, octets, settle=None):
         """Gives the MME lines that stand in the log already."""
-        batch = Batch()
-        batch.given = time.monotonic()
+        batch = self.asked()
         if settle is not None:
             batch.after.append(settle)
         self.marks.append(batch)
         self.program.give(octets + self.mark)
 
+    def asked(self):
+        """A batch of what stands in no turn of its own, which the MME is given now."""
+        batch = Batch()
+        batch.given = time.monotonic()
+        if not self.marks:
+            self.heard_at = batch.given
+        return batch
+
     def ask(self, lines, note, after):
         """Asks the MME for states, in lines that change nothing and don't stand in the log. Lines that can't be given yet, since the
         log can't be written, come after these."""
         self.flush()
-        batch = Batch()
-        batch.given = time.monotonic()
+        batch = self.asked()
         batch.turn = 0 if self.journal is None else self.journal.turn
         batch.after.append(lambda: self.do(batch.turn, after))
         place = len(self.shows) - sum(batch.questions() for batch in self.closed)
@@ -267,7 +273,7 @@ class Exchange:
         if self.used.noted and self.held_since is not None:
             return False
         try:
-            if self.journal is not None and self.journal.happened.is_cut:
+            if self.journal is not None and self.journal.is_cut:
                 self.check_log()
             if self.journal is None:
                 return True
@@ -300,12 +306,15 @@ class Exchange:
 
     def log_fails(self, fault):
         """The log can't be written: the front ends, holds the stations for a while, or goes on without it, as asked."""
-        text = str(fault) if isinstance(fault, Failed) else "%s: %s" % (self.journal.happened.path, told(fault))
+        text = str(fault) if isinstance(fault, Failed) else "%s: %s" % (self.journal.path, told(fault))
         if self.full_disk == GO_ON:
             self.go_on_without(text)
             return
         now = time.monotonic()
-        if self.full_disk == END or self.held_since is not None and now - self.held_since > limits.FULL_SECONDS:
+        is_over = self.held_since is not None and now - self.held_since > limits.FULL_SECONDS
+        if self.full_disk == END or is_over or isinstance(fault, Unheld):
+            if self.journal is not None:
+                self.journal.give_way()
             raise Failed(text, LOG_FAILS)
         if self.held_since is None:
             self.held_since = now
@@ -398,7 +407,7 @@ class Exchange:
             messages = []
             if line == MARK_ANSWER and self.marks:
                 self.has_been_answered(self.marks.popleft())
-            elif not self.is_replaying:
+            elif not self.is_replaying or self.shows and line.startswith(STATE):
                 self.take_other(line)
         self.take_messages(messages)
         self.write_beside()

@@ -18,6 +18,10 @@ class Failed(runs.Fault):
         self.status = status
 
 
+class Unheld(Failed):
+    """Why the front ends, though stations wait where a disk is full."""
+
+
 class Ended(Failed):
     """The MME ended by itself, with this status, after it had answered or before."""
 

@@ -1,6 +1,7 @@
 """The front: gives the MME what stations send, and them what it answers."""
 import functools
 import gc
+import itertools
 import os
 import select
 import signal
@@ -10,7 +11,7 @@ from tools.fronting import limits
 from tools.fronting.aside import Aside
 from tools.fronting.attaches import Attaches
 from tools.fronting.census import Census
-from tools.fronting.control import Control
+from tools.fronting.control import OF_STANDBY, WORDS, Control
 from tools.fronting.crowd import Crowd
 from tools.fronting.exchange import Exchange
 from tools.fronting.faults import BABBLES, LOG_FAILS, SILENT, WRONG, Ended, Failed, told
@@ -18,17 +19,20 @@ from tools.fronting.followers import Followers
 from tools.fronting.giving import Giving
 from tools.fronting.journal import Journal
 from tools.fronting.keys import YES, Missing, form_of
+from tools.fronting.listening import begin_to_listen
 from tools.fronting.loop import Loop
 from tools.fronting.meters import Meters
 from tools.fronting.mme import LINE_IS_WRONG, LibraryMme, PipedMme, library
 from tools.fronting.notify import Manager
 from tools.fronting.resuming import NoResume, OF_PHONE, Standing, head_facts, make_way, note_stations, parts_of, perhaps_used
 from tools.fronting.soundness import Soundness
+from tools.fronting.standby import Standby
 from tools.fronting.stock import Stock
 from tools.fronting.syncing import LOST, Syncer, why_unsure
 from tools.fronting.teller import Teller
 from tools.fronting.traffic import Traffic
 from tools.fronting.used import vector_of
+from tools.fronting.watchdog import Watchdog
 
 from tools import runs
 
@@ -46,9 +50,11 @@ class Front:
 
     def __init__(self, settings, head, voice, used):
         self.settings, self.head, self.voice, self.used = settings, head, voice, used
+        self.facts = head.facts  # of the subscribers' file
         self.loop, self.manager = Loop(), Manager(os.environ)
         self.meters = Meters(keeps_messages=settings.page is not None)
         self.exchange = self.crowd = self.control = self.page = self.giving = self.stock = self.teller = self.followers = None
+        self.standby = self.watchdog = None  # where the log is in a store
         self.aside, self.census, self.attaches, self.soundness = Aside(self), Census(self), Attaches(self), Soundness(self)
         self.traffic = Traffic(self)
         self.is_over, self.is_busy = False, False
@@ -60,13 +66,11 @@ class Front:
 
     def begin(self):
         """Starts the MME, with the last log before it where that is to be resumed; it has answered then."""
+        if self.settings.store is not None:
+            return self.begin_in_store()
         more = self.resume() if self.has_log() else None
         if more is None:
-            lost = [] if self.used.known else perhaps_used(self.settings.log)
-            make_way(self.settings.log, self.settings.keep)
-            if lost:
-                self.used.add(lost)
-                self.voice.say("used_unknown", "%s is lost: all vectors of the log count as used" % self.used.path)
+            self.put_away()
             self.leave_out_used()
             journal = Journal.begun(self.settings.log, self.head, *self.log_size, self.form)
             self.start(self.head)
@@ -74,6 +78,14 @@ class Front:
             self.exchange.replay(b"")
             self.wait()
         return more
+
+    def put_away(self):
+        """The log that stands makes way. Where it isn't known which of its vectors were used, all count as used."""
+        lost = [] if self.used.known else perhaps_used(self.settings.log)
+        make_way(self.settings.log, self.settings.keep)
+        if lost:
+            self.used.add(lost)
+            self.voice.say("used_unknown", "%s is lost: all vectors of the log count as used" % self.used.path)
 
     def has_log(self):
         """Whether a log stands that this run is to go on after, and all that was answered is in it. Where that isn't known and a
@@ -113,8 +125,12 @@ class Front:
 
     def start(self, head):
         self.exchange = Exchange(self.loop, self.voice, self.meters, self.used, self.settings.full_disk)
-        self.stock = Stock(head, self.has_few)
         self.exchange.note_challenge = self.note_challenge
+        self.start_mme(head)
+
+    def start_mme(self, head):
+        """An MME with this head, and what follows its phones."""
+        self.stock = Stock(head, self.has_few)
         self.exchange.begin(self.make, head)
         if self.teller is not None:
             self.teller.end(None)
@@ -142,6 +158,8 @@ class Front:
         timer = self.loop.after(CARE_SECONDS, lambda: None)
         self.loop.turn()
         timer.cancel()
+        if self.exchange is None:
+            return
         if self.exchange.has_answered:
             self.exchange.check_answers(time.monotonic(), self.settings.answer_seconds)
         elif time.monotonic() - self.exchange.heard_at > limits.FIRST_SECONDS:
@@ -158,7 +176,7 @@ class Front:
             up = self.play(standing, head)
             if self.is_over:
                 return ()
-            self.check_used(head)
+            self.check_used(head.facts, self.settings.log)
         except (NoResume, Missing, Failed) as fault:
             self.not_resumed(fault)
             return None
@@ -191,13 +209,13 @@ class Front:
                          WRONG if status in (LINE_IS_WRONG, BABBLES) else status)
         self.voice.say("not_resumed", "the last run isn't resumed, and nobody is attached: %s" % fault)
 
-    def check_used(self, head):
+    def check_used(self, facts, log):
         """Refuses a log that hasn't each challenge whose vector was used: it isn't what the MME was given last."""
-        missing = self.used.among(head.facts) - self.exchange.replayed
+        missing = self.used.among(facts) - self.exchange.replayed
         self.exchange.replayed = None
         if missing:
             raise NoResume("%s has no challenge of %s that %s has: something is missing in it, or another run came after it" % (
-                self.settings.log, runs.counted(len(missing), "vector"), self.used.path))
+                log, runs.counted(len(missing), "vector"), self.used.path))
 
     def take_up(self, standing):
         """The log goes on, and has first that all which stands in it is settled."""
@@ -230,7 +248,7 @@ class Front:
         self.stock.is_quiet = True
         exchange, exchange.is_replaying, exchange.replayed = self.exchange, True, set()
         for piece in standing.events():
-            self.check_lines(piece, head.slots)
+            self.check_lines(piece, head.slots, self.settings.log)
             note_stations(piece, up)
             filled = fill(piece)
             self.teller.take_before(filled)
@@ -242,7 +260,7 @@ class Front:
         exchange.is_replaying, exchange.meters = False, Meters()  # what was sent before isn't counted as sent now
         self.tail = standing.tail_batches(fill)
         for batch, octets in zip(self.tail, standing.tail):
-            self.check_lines(octets, head.slots)
+            self.check_lines(octets, head.slots, self.settings.log)
             note_stations(octets, up)
             exchange.shows.extend([lambda answer: None] * sum(line.startswith("show ") for line in batch.lines))
             exchange.marks.append(batch)
@@ -250,37 +268,109 @@ class Front:
             self.teller.take_before(lines)
             exchange.program.give(lines + exchange.mark)
         self.wait()
-        self.stock.is_quiet, exchange.meters = False, self.meters
+        self.has_caught_up()
+        return up
+
+    def has_caught_up(self):
+        """What happens from now on is new: it is counted, and said of phones that come to have few vectors."""
+        self.stock.is_quiet, self.exchange.meters = False, self.meters
         if self.stock.low:
             self.voice.say("few_vectors", "%s used all vectors but %d or fewer (`ask phones` has each phone's)"
                            % (runs.counted(len(self.stock.low), "phone"), limits.FEW_VECTORS), phones=len(self.stock.low))
-        return up
 
-    def check_lines(self, octets, slots):
+    @staticmethod
+    def check_lines(octets, slots, log):
         """Refuses lines of a log for an IMSI that nobody has: no run writes them, and by such a line's answer the front knows that
         a batch is over."""
         for imsi in OF_PHONE.findall(octets):
             if imsi.decode() not in slots:
-                raise NoResume("%s has a line that is damaged: nobody has the IMSI %s" % (self.settings.log, imsi.decode()))
+                raise NoResume("%s has a line that is damaged: nobody has the IMSI %s" % (log, imsi.decode()))
 
-    def open(self, listener, link, control, page):
-        """Takes stations and those who ask."""
+    # The log in a store.
+
+    def begin_in_store(self):
+        """Follows the log in the store until this front leads; the lines of provisioning that the log lacks."""
+        self.has_log()  # one that may lack what was answered
+        self.put_away()
+        self.standby = Standby(self, self.settings.store)
+        return self.standby.follow()
+
+    def begin_following(self, head):
+        """Begins the MME that is to play the log in the store from its first turn on, in the place of one that did so."""
+        self.head, is_first = head, self.exchange is None
+        if is_first:
+            self.start(head)
+            self.exchange.is_replaying, self.exchange.replayed, self.exchange.meters = True, set(), Meters()
+        else:
+            self.wait()
+            self.exchange.program.close()
+            self.exchange.has_answered = False
+            self.start_mme(head)
+        self.stock.is_quiet = True
+        self.exchange.replay(b"")
+        self.wait()
+        if is_first and not self.is_over:
+            self.open_to_guests()
+            self.control.answered = OF_STANDBY
+            self.is_ready()
+            self.voice.say("follows", "follows the log in the store at %s; control at %s" % (
+                self.settings.store, self.settings.control))
+
+    def leads(self, journal, stations, seconds):
+        """This front leads: what it is given from now on it writes itself, and answers."""
+        self.exchange.is_replaying = False
+        self.has_caught_up()
+        self.exchange.write_to(journal)
+        try:
+            self.used.sync()
+        except OSError as fault:
+            raise Failed("%s: %s" % (self.used.path, told(fault)), LOG_FAILS) from None
+        journal.syncer = Syncer(self.loop)
+        self.watchdog, self.control.answered = Watchdog(self.voice), WORDS
+        self.resumed = int(journal.last.number > 1)
+        self.voice.say("leads", "leads from turn %d of epoch %d on%s" % (
+            journal.last.number, journal.last.epoch, ": the run in the store goes on: %s lost, %d s passed" % (
+                "1 station was" if stations == 1 else "%d stations were" % stations, seconds) if self.resumed else ""),
+            epoch=journal.last.epoch, turn=journal.last.number)
+
+    @property
+    def stands_by(self):
+        """Whether the log is in a store, and another front's to write."""
+        return self.standby is not None and self.exchange.journal is None
+
+    # Stations and guests.
+
+    def open_to_guests(self):
+        """Takes those who ask."""
         self.crowd = Crowd(self.loop, self.exchange, self.voice, self.meters, self.attaches, self.settings)
-        if self.resumed:
-            self.crowd.used = set(range(runs.STATIONS))
-        self.exchange.note_context = self.attaches.accept
         self.followers = Followers(self)
-        self.exchange.note_settled = self.followers.bearers.take
-        self.crowd.listen(listener, link)
+        control, page = self.doors
         self.control = Control(self, control)
         if page is not None:
             self.page = page(self)
+
+    def open(self, listener, link):
+        """Takes stations."""
+        if self.standby is None:
+            self.open_to_guests()
+        else:
+            begin_to_listen(listener)
+        if self.resumed:
+            self.crowd.used = set(range(runs.STATIONS))
+        self.exchange.note_context = self.attaches.accept
+        self.exchange.note_settled = self.followers.bearers.take
+        self.crowd.listen(listener, link)
         self.tick_due = time.monotonic() + self.settings.second
         self.loop.after(self.settings.second, self.tick)
         self.care()
+        if self.standby is None:
+            self.is_ready()
+
+    def is_ready(self):
+        """Tells the service manager that it does what it is for, and from now on that it still turns."""
         self.manager.tell(READY=1)
         if self.manager.period:
-            self.watchdog()
+            self.tell_manager()
 
     # While it runs.
 
@@ -299,9 +389,10 @@ class Front:
         self.is_over = True
 
     def roll(self):
-        """Begins new segments of the log."""
-        self.exchange.look_after_log(rolls=True)
-        self.voice.say("rolled", "the log begins new segments")
+        """Begins new segments of the log, where it has some."""
+        if self.settings.store is None:
+            self.exchange.look_after_log(rolls=True)
+            self.voice.say("rolled", "the log begins new segments")
 
     def serve(self):
         """Turns until it is to end: what can be read is read and what can be sent is sent, all of a kind at once."""
@@ -328,32 +419,47 @@ class Front:
     def care(self):
         """Looks at what takes too long, and after the log."""
         now = time.monotonic()
+        if self.watchdog is not None:
+            self.watchdog.look()
+        if self.standby is not None and self.exchange.held_since is not None:
+            self.census.answer()  # since nobody is told what doesn't stand in the log
         self.crowd.sweep(now)
         self.exchange.check_answers(now, self.settings.answer_seconds)
         self.exchange.look_after_log()
         self.soundness.look()
         self.loop.after(CARE_SECONDS, self.care)
 
-    def watchdog(self):
+    def tell_manager(self):
         """Tells the service manager that it still turns."""
         self.manager.tell(WATCHDOG=1, STATUS=runs.counted(len(self.crowd.stations), "station"))
-        self.loop.after(self.manager.period, self.watchdog)
+        self.loop.after(self.manager.period, self.tell_manager)
 
     def give(self, text, reply):
         """Provisions further subscribers and vectors, and replies how that went."""
         if self.giving is not None:
             raise runs.Fault("something is being given already")
-        if self.exchange.journal is None or not self.exchange.journal.counts.is_whole:
+        if self.exchange.journal is None or not self.exchange.journal.is_whole:
             raise runs.Fault("the log isn't whole since the start, so that nothing can be given")
+        if self.standby is not None and len(text) > limits.LONGEST_STORED:
+            raise runs.Fault("with the log in a store, %d octets of lines can be given at a time" % limits.LONGEST_STORED)
         lines = text.decode("latin-1").removesuffix("\n").split("\n")
         self.used.check_given(lines)
         self.giving = Giving(self, lines, reply)
+
+    def give_more(self, lines):
+        """Gives the lines of the subscribers' file that the log lacks: to a store one part after the other."""
+        sizes = itertools.accumulate(len(line) + 1 for line in lines)
+        end = len(lines) if self.standby is None else sum(size <= limits.LONGEST_STORED for size in sizes)
+        rest = lines[end:]
+        self.give("\n".join(lines[:end]).encode("latin-1"), lambda answer: self.give_more(rest) if rest else None)
 
     # The end.
 
     def stop(self):
         """Has each station be lost, ends the MME's input and sends its last answers; the MME's status."""
         self.manager.tell(STOPPING=1)
+        if self.watchdog is not None:
+            self.watchdog.close()
         if self.exchange is None or self.exchange.program is None:
             return 0
         if self.giving is not None:
@@ -399,6 +505,8 @@ class Front:
                 self.exchange.program.close()
             if self.exchange.journal is not None:
                 self.exchange.journal.close()
+        if self.standby is not None:
+            self.standby.close()
         for number, handler in self.handlers.items():
             signal.signal(number, handler)
         signal.set_wakeup_fd(-1)
@@ -409,15 +517,15 @@ class Front:
     def run(self, listener, link, control, page=None):
         """Runs to its end."""
         self.handle_signals()
-        status, failed = 0, None
+        status, failed, self.doors = 0, None, (control, page)
         try:
             more = self.begin()
             if not self.is_over:
-                self.open(listener, link, control, page)
+                self.open(listener, link)
                 self.voice.say("ready", "ready: stations at %s port %d by %s; control at %s; log in %s" % (
-                    *listener.getsockname()[:2], link.NAME, self.settings.control, self.settings.log))
+                    *listener.getsockname()[:2], link.NAME, self.settings.control, self.settings.store or self.settings.log))
                 if more:
-                    self.give("\n".join(more).encode("latin-1"), lambda answer: None)
+                    self.give_more(more)
                 self.serve()
         except Failed as fault:
             failed = fault

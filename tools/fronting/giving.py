@@ -8,54 +8,21 @@ in the log below a comment that says so. From there on the played log has the an
 longer head.
 """
 import collections
-import os
 
 from tools import runs, s1ap
 
 from tools.fronting import limits
 from tools.fronting.challenges import challenged
 from tools.fronting.mme import MARK_ANSWER, nothing
-from tools.fronting.segments import NUMBERED, name_of
 
 MARK = MARK_ANSWER + b"\n"
-PIECE = 1 << 17  # octets of the log that are given at once
+PIECE = 1 << 17  # octets of the log that wait for an MME, beyond which it is given none
 # Why the front has a subscriber's registration end, in the log above that line.
 ANEW = runs.BEGUN_ANEW + "the front was given lines for %s, who was sent other answers than the log gives above; nobody withdrew it"
 
 
 class Differs(Exception):
     """An answer that isn't the same under the longer head."""
-
-
-class Reading:
-    """Reads what counts from its beginning to its end, while it grows; whole lines alone."""
-
-    def __init__(self, series):
-        self.series, self.number, self.rest = series, 1, b""
-        self.file = self.open()
-        octets = b""
-        while not (found := NUMBERED.search(octets)):
-            octets += os.read(self.file, 1 << 20)
-        self.rest = octets[found.end():]
-
-    def open(self):
-        path = self.series.path if self.number == self.series.number else name_of(self.series.path, self.number)
-        return os.open(path, os.O_RDONLY)
-
-    def piece(self):
-        """The next lines, or nothing where it has come to the end for now."""
-        octets = self.rest + os.read(self.file, PIECE)
-        if not octets and self.number < self.series.number:
-            os.close(self.file)
-            self.number += 1
-            self.file = self.open()
-            octets = os.read(self.file, PIECE)
-        end = octets.rfind(b"\n") + 1
-        self.rest = octets[end:]
-        return octets[:end]
-
-    def close(self):
-        os.close(self.file)
 
 
 class Comparison:
@@ -138,7 +105,7 @@ class Giving:
                               for word, thing in (("sub ", "subscriber"), ("vec ", "vector")))
         self.comparison = Comparison(imsis, self.head.slots)
         self.form = front.exchange.journal.form.of(self.head)  # of the log with the longer head
-        self.reading, self.fill = Reading(front.exchange.journal.counts), self.form.filling()
+        self.reading, self.fill = front.exchange.journal.reading(self.go_on), self.form.filling()
         self.mark = b"data %s\n" % self.head.unknown_imsi().encode()
         self.given, self.pieces = 0, collections.deque()
         self.is_holding = self.is_settled = self.is_over = False
@@ -183,6 +150,8 @@ class Giving:
     def give(self):
         """Gives both the next piece; or where they have come to the end, holds the stations, and then changes over."""
         piece = self.reading.piece()
+        if piece is None:
+            return  # until it is there
         if piece:
             self.given += piece.count(b"\n")
             self.pieces.append((self.given, piece))
@@ -196,11 +165,11 @@ class Giving:
     def come_to_an_end(self):
         """All that is written was compared."""
         exchange = self.front.exchange
-        if exchange.journal is None or not exchange.journal.counts.is_whole:
+        if exchange.journal is None or not exchange.journal.is_whole:
             self.refuse("the log isn't whole")
         elif not self.is_holding:
             self.is_holding = exchange.is_held = True
-            self.timers.append(self.front.loop.after(limits.HOLD_SECONDS, lambda: self.refuse("the rest took too long")))
+            self.timers.append(self.front.loop.after(exchange.journal.hold_seconds, lambda: self.refuse("the rest took too long")))
             self.front.loop.after(0, self.go_on)
         elif not exchange.is_quiet:
             self.front.loop.after(0.001, self.go_on)
@@ -214,7 +183,7 @@ class Giving:
     def change_over(self):
         """The second MME is the MME from now on."""
         exchange, front = self.front.exchange, self.front
-        exchange.journal.lengthen(self.head, self.form)
+        note = exchange.journal.lengthen(self.head, self.form)
         front.teller.lengthen(front.head, self.head)
         before, front.head, exchange.mark, exchange.imsis = exchange.program, self.head, self.mark, self.head.imsis
         exchange.adopt(self.new)
@@ -223,12 +192,21 @@ class Giving:
         for slot, rand in self.comparison.challenges.items():
             front.stock.note(slot, rand)
         before.close()
+        if note is not None:
+            exchange.put(note)
         for imsi in sorted(self.comparison.differing):
             exchange.put("%s\ncancel %s" % (ANEW % imsi, imsi))
         front.given += 1
         self.is_over = True
         self.close()
-        front.voice.say("given", "given " + self.told)
+        if note is not None:
+            exchange.when_kept(self.has_given)
+        else:
+            self.has_given()
+
+    def has_given(self):
+        """All of it stands in the log."""
+        self.front.voice.say("given", "given " + self.told)
         self.reply("given " + self.told)
 
     def refuse(self, why):

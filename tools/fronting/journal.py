@@ -23,8 +23,9 @@ from tools import runs
 from tools.fronting import limits
 from tools.fronting.faults import Failed, LOG_FAILS
 from tools.fronting.keys import Whole
-from tools.fronting.segments import Series
+from tools.fronting.segments import Reading, Series
 from tools.fronting.syncing import folder_of, forget_unsynced, note_unsynced, sync_path
+from tools.fronting.turns import Turns
 
 UNTIL = re.compile(rb"# settled until segment (\d+), octet (\d+)\n")
 SETTLED_UNTIL = b"# settled until segment %d, octet %d\n"
@@ -152,24 +153,18 @@ class Batch:
         return known is not None and known.is_nobodys(binascii.unhexlify(line.rpartition(" ")[2].replace("-", "")))
 
 
-class Journal:
-    """Both series, one of what happened and one of what counts, in a form (keys.py).
-
-    To the exchange a journal is `add`, which takes a turn where it `takes` one; `keeps`, by which it says what is committed;
-    `tell`, which it calls when more is, or with a fault; `settle`, `care` and `close`. Objects in `beside` keep what is to stand on
-    disk before an answer goes out. Such a one is true while it has something to be written; `write` writes that to its `file`."""
+class Journal(Turns):
+    """Both series, one of what happened and one of what counts, in a form (keys.py)."""
 
     def __init__(self, happened, counts, form):
+        super().__init__(happened.path)
         self.happened, self.counts, self.form = happened, counts, form
         self.settled, self.ticks, self.octets = [], 0, 0  # what counts and isn't written yet; ticks in a row at its end
         self.until, self.written, self.due = happened.place, happened.place, time.monotonic()
         self.last_time, self.gone = None, []
-        self.syncer, self.folder, self.tell = None, None, lambda fault=None: None
-        self.turn = self.committed = 0  # the last turn that came, and the last that is committed
+        self.folder = None
         self.since = self.fault = None  # since when the turn under way is synced, and the fault of that
         self.chunk, self.sure = None, happened.place  # what counts is written up to there, and surely on disk up to there
-        self.beside, self.noted, self.kept, self.is_noting = [], 0, 0, False  # writes of those beside, and how many are on disk
-        self.is_broken = False  # whether it isn't known what of these is on disk
         # How many lines what happened has, where it has its keys, and as its head was when the run began; nothing where that isn't
         # known; as of which segment; how many lines its head has, and how many of them came since.
         self.lines, self.segment, self.head_lines, self.lines_given = None, happened.number, 0, 0
@@ -206,18 +201,17 @@ class Journal:
     # Turns.
 
     @property
-    def takes(self):
-        """Whether the next turn may come."""
-        return self.turn == self.committed and not self.is_broken
-
-    @property
     def is_under_way(self):
         """Whether a turn, or what stands beside the log, is being synced."""
         return self.since is not None or self.is_noting and not self.is_broken
 
-    def keeps(self, turn, noted=0):
-        """Whether a turn, and so many writes of those beside, are committed."""
-        return turn <= self.committed and noted <= self.kept
+    @property
+    def is_cut(self):
+        return self.happened.is_cut
+
+    @property
+    def is_whole(self):
+        return self.counts.is_whole
 
     def add(self, batches):
         """Writes a turn, which the MME is about to be given."""
@@ -291,51 +285,12 @@ class Journal:
                 fault = self.fault_of(self.end_chunk)
         self.tell(fault)
 
-    @staticmethod
-    def fault_of(act):
-        """Does something; the system's fault, or nothing."""
-        try:
-            act()
-        except OSError as fault:
-            return fault
-        return None
-
     def care(self, now):
         """Syncs a turn again that had a fault. One that takes too long has one."""
         if self.fault is not None:
             self.sync_turn()
         elif self.since is not None and now - self.since > limits.FULL_SECONDS:
             raise Failed("%s: it isn't on disk after %d s" % (self.happened.path, limits.FULL_SECONDS), LOG_FAILS)
-
-    # Beside the log.
-
-    def mark(self):
-        """How many writes of those beside there are once what they know is written."""
-        return self.noted + 1 if any(self.beside) else self.noted
-
-    def write_beside(self):
-        """Writes what those beside know, and has it be on disk; what comes meanwhile is written after that."""
-        if self.is_noting or not any(self.beside):
-            return
-        files = []
-        for one in self.beside:
-            if one:
-                one.write()
-                files.append(one.file)
-        self.noted += 1
-        if self.syncer is None:
-            self.kept = self.noted
-        else:
-            self.is_noting = True
-            self.syncer.sync([(os.fdatasync, file) for file in files], self.has_noted)
-
-    def has_noted(self, fault):
-        """What those beside had is on disk. After a fault that can't be known, so the front ends and nothing more goes out."""
-        if fault is not None:
-            self.is_broken = True
-            raise Failed("what stands beside %s isn't on disk: %s" % (self.happened.path, fault.strerror), LOG_FAILS)
-        self.is_noting, self.kept = False, self.noted
-        self.tell(self.fault_of(self.write_beside))
 
     # What counts.
 
@@ -421,8 +376,12 @@ class Journal:
         gone, self.gone = self.gone, []
         return gone
 
+    def reading(self, go_on):
+        """Reads what counts from its beginning; none of it comes later, for which `go_on` would be called."""
+        return Reading(self.counts)
+
     def lengthen(self, head, form):
-        """Both series have this head from now on, in the form that it brings."""
+        """Both series have this head from now on, in the form that it brings; there is no line that has to say so."""
         self.form = form
         octets = form.text(head).encode("latin-1")
         self.lines_given += octets.count(b"\n") - self.head_lines

@@ -34,6 +34,19 @@ SEGMENT_SIZE, SEGMENTS = 64, 16  # MiB of a segment of the log, and how many are
 FULL_SECONDS = 60  # that a full disk may keep the stations waiting
 SETTLED_SECONDS, SETTLED_OCTETS = 1, 1 << 20  # what counts is written after so long, or so much
 
+# Of a log in a store: seconds for an answer of one of its members, for one with many turns, until another is asked after a fault,
+# and for the store to be there at the start.
+STORE_CALL_SECONDS, STORE_PAGE_SECONDS, STORE_REST, STORE_SECONDS = 1, 3, 0.05, 60
+# Seconds between two reads of a standby, and where the first found turns; seconds of silence after which it leads, and seconds
+# without a commit after which a leader ends.
+READING_SECONDS, READING_SOON, SILENCE_SECONDS, UNCOMMITTED_SECONDS = 0.02, 0.005, 3, 5
+TURNS_READ, TURNS_GIVEN = 200, 20  # turns that are read at once, by a standby and for who gives
+STORED_OCTETS, LONGEST_STORED = 1 << 18, 1 << 20  # of a turn, and of lines that are given with it; etcd takes 1.5 MiB at once
+# Of a store that fills: seconds between two looks, the part of its quota of which the front says so, and seconds until a standby
+# tries again to lead where the quota is reached.
+ROOM_SECONDS, FULLEST, FULL_REST = 10, 0.5, 1
+HANGING_SECONDS = 10  # without a turn of the loop, after which a front with a store ends
+
 LONGEST_ASKED = 256  # octets of a line of the control socket
 LONGEST_GIVEN = 1 << 22  # octets of the lines that `give` has after its own
 MOST_ASKING = 16  # connections to the control socket at a time

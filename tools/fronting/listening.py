@@ -20,8 +20,9 @@ def failed(place, fault):
     return Failed("%s: %s" % (place, told(fault)), NOT_YET if fault.errno in PASSING else WRONG)
 
 
-def listener_of(addresses, port, tcp):
-    """A socket that stations are to connect to, at one address, or by SCTP at several; and what their connections are."""
+def listener_of(addresses, port, tcp, listens=True):
+    """A socket that stations are to connect to, at one address, or by SCTP at several; and what their connections are. Where it
+    doesn't listen yet, they are refused."""
     link = TcpLink if tcp else SctpLink
     if tcp and len(addresses) > 1:
         raise Failed("TCP has one address: give --listen once", WRONG)
@@ -41,11 +42,22 @@ def listener_of(addresses, port, tcp):
         listener.bind((str(addresses[0]), port))
         if addresses[1:]:
             sctp.bind_more(listener, addresses[1:], listener.getsockname()[1])
-        listener.listen(runs.STATIONS)
     except OSError as fault:
         listener.close()
         raise failed("%s port %d" % (", ".join(map(str, addresses)), port), fault) from None
+    if listens:
+        begin_to_listen(listener)
     return listener, link
+
+
+def begin_to_listen(listener):
+    """Has stations be taken from now on."""
+    try:
+        listener.listen(runs.STATIONS)
+    except OSError as fault:
+        place = "%s port %d" % listener.getsockname()[:2]
+        listener.close()
+        raise failed(place, fault) from None
 
 
 def page_listener_of(address, port):

@@ -108,10 +108,18 @@ def add_upkeep(text, front):
              [({"of": what}, of["share"]) for what, of in log])
     text.add("log_whole", "gauge", "Whether all of the log since the start is there: --resume and give need what counts.",
              [({"of": what}, int(of["whole"])) for what, of in log])
-    alarms = status.alarms(front)
+    alarms, told = status.alarms(front), status.store(front)
     text.add("alarm", "gauge", "Whether somebody is to look after it: few vectors or segments are left, or the log isn't whole.",
-             [({"of": what}, int(what in alarms)) for what in status.ALARMS])
+             [({"of": what}, int(what in alarms)) for what in (*status.ALARMS, *([status.STORE] if told else []))])
     text.add("log_segments_removed_total", "counter", "Segments of the log that went for new ones.", [({}, meters.gone)])
+    if told:
+        text.add("store_leads", "gauge", "Whether this front leads, by the log in the store.", [({}, int(told["leads"]))])
+        text.add("store_epoch", "gauge", "The epoch of the log in the store.", [({}, told["epoch"])])
+        text.add("store_turn", "gauge", "The last turn: of this front, and of the store as far as it knows.",
+                 [({"of": "front"}, told["turn"]), ({"of": "store"}, told["last_turn"])])
+        text.add("store_turns_octets", "gauge", "Octets of the turns up to this front's last one.", [({}, told["octets"])])
+        text.add("store_octets", "gauge", "Octets of the store's fullest member, and of its quota; 0 where that isn't known.",
+                 [({"of": "store"}, told["store_octets"]), ({"of": "quota"}, told["store_quota"] or 0)])
     text.add("memory_octets", "gauge", "Memory of the processes.",
              [({"of": "front"}, status.memory()), ({"of": "mme"}, status.memory(front.exchange.program.pid))])
     text.add("start_seconds", "gauge", "When the front began, in seconds since 1970.", [({}, meters.begun)])

@@ -31,6 +31,7 @@ OF_PHONE = "IMSI", "Address", "EMM", "ECM", "ESM", "Station", "Vectors left"
 OF_TUNNEL = "IMSI", "Leads to", "TEID", "Packets from it", "Octets", "Packets to it", "Octets", "Dropped", "Waiting"
 OF_GATEWAY = ("Address", "Network", "Contexts", "Stations", "Packets up", "Octets up", "Packets down", "Octets down", "Dropped",
               "Waiting")
+OF_STORE = "This front", "Epoch", "Its last turn", "The store's last turn", "Octets of turns", "Of the store", "Of its quota"
 HELD = "The log can't be written: stations are refused and not heard until there is room."
 UNTOLD = "Reasons are missing here: %s. `tools/explain` finds them in the log."
 LATE = "%d lines are still to be read"
@@ -96,8 +97,18 @@ def of_stations(front, _):
     return [*above(front), "<h2>Stations</h2>", table(heads, rows) if rows else '<p class="none">No station is connected.</p>']
 
 
+def of_store(front):
+    """How far a front with its log in a store has come."""
+    told = status.store(front)
+    rows = [["leads" if told["leads"] else "stands by", told["epoch"], told["turn"], told["last_turn"], told["octets"],
+             told["store_octets"], told["store_quota"] or "not known"]]
+    return ["<h2>Log</h2>", table(OF_STORE, rows), '<p class="note">In the store at %s.</p>' % shown(str(front.settings.store))]
+
+
 def of_log(front, _):
     """The log's health."""
+    if front.standby is not None:
+        return of_store(front)
     octets = status.log_octets(front)
     log = [[what, octets[what], "%d of %d" % (part["segments"], part["segments_kept"]), "yes" if part["whole"] else "no"]
            for what, part in status.log(front).items()]
@@ -266,7 +277,8 @@ class Page:
     def answer(self, guest, target, is_head):
         path, _, query = target.partition("?")
         if path == "/health":
-            guest.say(response(OK, TEXT_FORM, b"it serves\n", is_head), is_last=True)
+            words = b"it follows\n" if self.front.stands_by else b"it serves\n"
+            guest.say(response(OK, TEXT_FORM, words, is_head), is_last=True)
         elif path == "/metrics":
             self.tell(guest, METRICS, is_head)
         elif path == "/" and (view := self.view_of(query)) is not None:

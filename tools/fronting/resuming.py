@@ -17,6 +17,7 @@ from tools.fronting.segments import NUMBERED, Series, mend, name_of, older_segme
 from tools.fronting.syncing import UNSYNCED
 
 TIMES = re.compile(rb"# time ([0-9-]+ [0-9:.]+)\n")
+TIME_FORMAT = "%Y-%m-%d %H:%M:%S.%f"
 SETTLED, TIME = b"# settled until segment ", b"# time "
 CHANGES = re.compile(rb"^(up|lost) (\d+)$", re.MULTILINE)
 PHONE = re.compile(rb"^in [0-9]+ 000c", re.MULTILINE | re.IGNORECASE)  # an INITIAL UE MESSAGE, without which nobody is challenged
@@ -77,6 +78,16 @@ def last_of(pattern, beginning, octets):
         if found:
             return found
         at = octets.rfind(beginning, 0, at)
+    return None
+
+
+def seconds_since(octets):
+    """How long ago the last time was that a log's lines have; nothing where they have none."""
+    found = last_of(TIMES, TIME, octets)
+    with contextlib.suppress(ValueError):  # digits that are no time
+        if found:
+            then, now = (datetime.datetime.strptime(time_of_day, TIME_FORMAT) for time_of_day in (found[1].decode(), clock()))
+            return max(0, min(int((now - then).total_seconds()), runs.LONGEST_TICK))
     return None
 
 
@@ -222,14 +233,7 @@ class Standing:
 
     def seconds_since(self):
         """How long ago it ended, by the last time that it has."""
-        for octets in reversed(self.happened.values()):
-            found = last_of(TIMES, TIME, octets)
-            if found:
-                with contextlib.suppress(ValueError):  # digits that are no time
-                    then = datetime.datetime.strptime(found[1].decode(), "%Y-%m-%d %H:%M:%S.%f")
-                    now = datetime.datetime.strptime(clock(), "%Y-%m-%d %H:%M:%S.%f")
-                    return max(0, min(int((now - then).total_seconds()), runs.LONGEST_TICK))
-        return 0
+        return next((seconds for seconds in map(seconds_since, reversed(self.happened.values())) if seconds is not None), 0)
 
     def tail_batches(self, fill):
         """The tail as batches whose answers settle it; `fill` puts back what the log leaves out."""

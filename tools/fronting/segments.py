@@ -15,6 +15,7 @@ from tools.fronting.syncing import folder_of, sync_path
 NUMBERED = re.compile(rb"^# segment (\d+), begun .*\n", re.MULTILINE)
 NUMBERED_LINE = re.compile(r"# segment \d+, begun ")  # the beginning of such a line
 DIGITS = 6
+PIECE = 1 << 17  # octets that are read at once
 
 
 def name_of(path, number):
@@ -290,6 +291,37 @@ class Series:
         """Nothing was written to it but its head."""
         self.close()
         os.unlink(self.path)
+
+    def close(self):
+        os.close(self.file)
+
+
+class Reading:
+    """Reads what counts from its beginning to its end, while it grows; whole lines alone."""
+
+    def __init__(self, series):
+        self.series, self.number, self.rest = series, 1, b""
+        self.file = self.open()
+        octets = b""
+        while not (found := NUMBERED.search(octets)):
+            octets += os.read(self.file, 1 << 20)
+        self.rest = octets[found.end():]
+
+    def open(self):
+        path = self.series.path if self.number == self.series.number else name_of(self.series.path, self.number)
+        return os.open(path, os.O_RDONLY)
+
+    def piece(self):
+        """The next lines, or nothing where it has come to the end for now."""
+        octets = self.rest + os.read(self.file, PIECE)
+        if not octets and self.number < self.series.number:
+            os.close(self.file)
+            self.number += 1
+            self.file = self.open()
+            octets = os.read(self.file, PIECE)
+        end = octets.rfind(b"\n") + 1
+        self.rest = octets[end:]
+        return octets[:end]
 
     def close(self):
         os.close(self.file)

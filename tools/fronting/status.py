@@ -7,6 +7,7 @@ from tools.fronting.meters import OTHER, name_of
 
 PIECE = 500  # phones that are told of at a time
 ALARMS = "vectors", "what happened", "what counts", "log"  # what there are alarms of
+STORE = "store"  # and where the log is in a store
 
 
 def stations(front):
@@ -68,9 +69,21 @@ def log_octets(front):
     return {series.what: front.soundness.octets(series) for series in front.soundness.series()}
 
 
+def store(front):
+    """How far a front with a log in a store has come: of a leader the last turn that is committed, of another one the last turn
+    that it played; and the last one that it knows of in the store. Nothing where the log is in files."""
+    if front.standby is None:
+        return None
+    journal, standby = front.exchange.journal, front.standby
+    last, turn = (journal.last, journal.committed) if journal else (standby.last, standby.number)
+    return {"leads": journal is not None, "epoch": last.epoch, "turn": turn, "last_turn": last.number,
+            "octets": journal.size if journal else standby.size, "answers": standby.fault is None,
+            "store_octets": standby.room.size, "store_quota": standby.room.quota}
+
+
 def counters(front):
     """All that is counted."""
-    meters, exchange = front.meters, front.exchange
+    meters, exchange, in_store = front.meters, front.exchange, store(front)
     return {
         "seconds": round(time.time() - meters.begun, 1),
         "messages_in": named(meters.inward), "messages_out": named(meters.outward),
@@ -83,7 +96,7 @@ def counters(front):
         "phones_by_vectors_left": front.stock.by_left(), "fewest_vectors_left": front.stock.least(),
         "log": log(front), "log_octets": log_octets(front),
         "log_segments_gone": meters.gone, "memory_octets": memory(), "mme_memory_octets": memory(exchange.program.pid),
-        "resumed": front.resumed, "given": front.given,
+        "resumed": front.resumed, "given": front.given, **({"store": in_store} if in_store else {}),
     }
 
 
@@ -99,7 +112,11 @@ def alarms(front):
                 front.soundness.used(series)[0], series.most, series.what)
         if not series.is_whole:
             found[series.what] = "The log of %s isn't whole since the start." % series.what
-    if front.exchange.journal is None:
+    if front.standby is not None and front.standby.room.is_low:
+        found[STORE] = "T%s." % front.standby.room.words()[1:]
+    if front.stands_by and front.standby.fault is not None:
+        found["log"] = "The store doesn't answer: %s." % front.standby.fault.words
+    elif front.exchange.journal is None and front.standby is None:
         found["log"] = "There is no log."
     return found
 

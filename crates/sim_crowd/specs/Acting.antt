@@ -7,12 +7,12 @@ use Rattle.enb_sim.specs.Delivering.{StationView, holds_pair}
 use Rattle.enb_sim.specs.Sending.{initial_pdu, release_pdu, setup_pdu, switch_pdu, uplink_pdu}
 use Rattle.enb_sim.specs.View.{sent_if}
 use Rattle.s1ap_elements.specs.declared.phone.UeIdPair.{UeIdPair}
-use Rattle.sim_words.specs.declared.act.PhoneWord.{PhoneWord}
-use Rattle.sim_words.specs.declared.act.PhoneWord.TheVariants.{Detach, Off, Idle, Deaf, Replay, Forge}
-use Rattle.sim_words.specs.declared.act.RadioPlace.{RadioPlace}
-use Rattle.sim_words.specs.declared.act.RadioWord.{RadioWord}
-use Rattle.sim_words.specs.declared.act.RadioWord.TheVariants.{Attach, Info, Foreign, Service, Tau, Switch}
-use Rattle.sim_words.specs.declared.act.StationLine.{StationLine}
+use Rattle.trace_words.specs.declared.act.PhoneWord.{PhoneWord}
+use Rattle.trace_words.specs.declared.act.PhoneWord.TheVariants.{Detach, Off, Idle, Deaf, Replay, Forge}
+use Rattle.trace_words.specs.declared.act.RadioPlace.{RadioPlace}
+use Rattle.trace_words.specs.declared.act.RadioWord.{RadioWord}
+use Rattle.trace_words.specs.declared.act.RadioWord.TheVariants.{Attach, Info, Foreign, Service, Tau, Switch}
+use Rattle.trace_words.specs.declared.act.StationLine.{StationLine}
 use Rattle.sim_crowd.specs.declared.acted.Acted.{Acted}
 use Rattle.sim_crowd.specs.declared.acted.Acted.TheVariants.{Skipped, Silent, Sends}
 use Rattle.sim_crowd.specs.declared.crowd.Crowd.{Crowd}

@@ -2,7 +2,7 @@
 use Rattle.std.specs.Prelude.{ℕ, if◌then◌else◌, List, [], ◌∷◌, Option, Some, None}
 use Rattle.nas_elements.specs.Identities.{first_of}
 use Rattle.identity_slots.specs.declared.profile.Vector.{Vector}
-use Rattle.sim_words.specs.declared.act.StationLine.{StationLine}
+use Rattle.trace_words.specs.declared.act.StationLine.{StationLine}
 use Rattle.sim_crowd.specs.declared.crowd.Crowd.{Crowd}
 use Rattle.sim_crowd.specs.declared.whereabouts.Connection.{Connection}
 use Rattle.sim_crowd.specs.declared.whereabouts.Standing.{Standing}

@@ -3,10 +3,10 @@ use Rattle.std.specs.Prelude.{◌≡◌, ℕ, ◌⊎◌, List, Option, Some, Non
 use Rattle.sim_phone.specs.declared.phone.PhoneAct.{PhoneAct}
 use Rattle.sim_phone.specs.declared.phone.PhoneAct.TheVariants as acts
 use Rattle.enb_sim.specs.Delivering.{PhoneNasView}
-use Rattle.sim_words.specs.declared.act.PhoneWord.{PhoneWord}
-use Rattle.sim_words.specs.declared.act.PhoneWord.TheVariants.{Detach, Off, Idle, Deaf, Replay, Forge}
-use Rattle.sim_words.specs.declared.act.RadioWord.{RadioWord}
-use Rattle.sim_words.specs.declared.act.RadioWord.TheVariants.{Attach, Info, Foreign, Service, Tau, Switch}
+use Rattle.trace_words.specs.declared.act.PhoneWord.{PhoneWord}
+use Rattle.trace_words.specs.declared.act.PhoneWord.TheVariants.{Detach, Off, Idle, Deaf, Replay, Forge}
+use Rattle.trace_words.specs.declared.act.RadioWord.{RadioWord}
+use Rattle.trace_words.specs.declared.act.RadioWord.TheVariants.{Attach, Info, Foreign, Service, Tau, Switch}
 use Rattle.sim_crowd.specs.declared.crowd.Crowd.{Crowd}
 use Rattle.sim_crowd.specs.declared.whereabouts.Connection.{Connection}
 use Rattle.sim_crowd.specs.Acting.{with_phone_act}

@@ -9,8 +9,8 @@ use Rattle.sim_phone.specs.declared.phone.PhoneAct.TheVariants.{Foreign}
 use Rattle.enb_sim.specs.Delivering.{delivered, holds_pair, pair_with}
 use Rattle.enb_sim.specs.View.{new_station}
 use Rattle.sorted_list.specs.Paired.{paired}
-use Rattle.sim_words.specs.declared.act.RadioPlace.{RadioPlace}
-use Rattle.sim_words.specs.declared.act.StationLine.{StationLine}
+use Rattle.trace_words.specs.declared.act.RadioPlace.{RadioPlace}
+use Rattle.trace_words.specs.declared.act.StationLine.{StationLine}
 use Rattle.sim_crowd.specs.declared.site.Site.{Site}
 use Rattle.sim_crowd.specs.Index.{free_under, is_place, place_under, put_under, taken_under}
 

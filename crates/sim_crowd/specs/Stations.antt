@@ -5,8 +5,8 @@ use Rattle.enb_sim.specs.declared.station.StationAct.{StationAct}
 use Rattle.enb_sim.specs.declared.station.StationAct.TheVariants.{SetUp}
 use Rattle.enb_sim.specs.Delivering.{PhoneNasView, StationView, delivered, seen_nas}
 use Rattle.enb_sim.specs.declared.delivering.Delivery.{Delivery}
-use Rattle.sim_words.specs.declared.act.RadioPlace.{RadioPlace}
-use Rattle.sim_words.specs.declared.act.StationLine.{StationLine}
+use Rattle.trace_words.specs.declared.act.RadioPlace.{RadioPlace}
+use Rattle.trace_words.specs.declared.act.StationLine.{StationLine}
 use Rattle.sim_crowd.specs.declared.index.Entry.{Entry}
 use Rattle.sim_crowd.specs.declared.site.Site.{Site}
 use Rattle.sim_crowd.specs.declared.whereabouts.Connection.{Connection}

@@ -1,7 +1,7 @@
 -- Where phones are: at a station by an eNB UE id, and by which associations.
 use Rattle.std.specs.Prelude.{◌&&◌, ◌==◌, Bool, false, Option, Some, None}
 use Rattle.enb_sim.specs.Delivering.{is_pair, pair_with}
-use Rattle.sim_words.specs.declared.act.RadioPlace.{RadioPlace}
+use Rattle.trace_words.specs.declared.act.RadioPlace.{RadioPlace}
 use Rattle.sim_crowd.specs.declared.whereabouts.Connection.{Connection}
 use Rattle.sim_crowd.specs.declared.whereabouts.Standing.{Standing}
 

@@ -11,7 +11,7 @@ use crate::phones::FirstWords;
 use crate::whereabouts::{Connection, Standing, is_same_place};
 use enb_sim::{PhoneAct, StationAct};
 use s1ap_elements::UeIdPair;
-use sim_words::RadioPlace;
+use trace_words::RadioPlace;
 
 impl Crowd {
     // A phone has this association alone, and is there.

@@ -16,8 +16,8 @@ use crate::stations::Stations;
 use enb_sim::PhoneAct;
 use identity_slots::{StationNumber, Vector};
 use nas_elements::Imsi;
-use sim_words::{PhoneWord, RadioPlace, RadioWord, StationLine};
 use std::alloc::{AllocError, Global};
+use trace_words::{PhoneWord, RadioPlace, RadioWord, StationLine};
 
 /// The stations and phones of a script, and the network of the stations to come.
 #[derive(Drop)]

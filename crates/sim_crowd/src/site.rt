@@ -10,9 +10,9 @@ use enb_sim::{PhoneAct, Station, StationAct};
 use identity_slots::AssociationId;
 use per_bits::{BitField, Octets, Whole};
 use s1ap_elements::UeIdPair;
-use sim_words::{MacroId, RadioPlace, StationLine};
 use sorted_list::paired;
 use std::alloc::Global;
+use trace_words::{MacroId, RadioPlace, StationLine};
 
 /// The key of an association: both of its numbers.
 pub(crate) fn pair_key(pair: &UeIdPair) -> u128

@@ -17,9 +17,9 @@ use enb_sim::{Delivery, PhoneAct, StationAct};
 use identity_slots::StationNumber;
 use s1ap_elements::UeIdPair;
 use s1ap_messages::{Pdu, S1apFault, decode};
-use sim_words::{RadioPlace, StationLine};
 use std::alloc::{AllocError, Global};
 use std::marker::Model;
+use trace_words::{RadioPlace, StationLine};
 
 /// The stations in the order in which they were added; each is found by its number.
 #[derive(Drop)]

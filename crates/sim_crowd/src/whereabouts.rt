@@ -5,7 +5,7 @@ ghost use Rattle.sim_crowd.specs.Whereabouts.{is_connection, place_with, same_co
 
 use identity_slots::StationNumber;
 use s1ap_elements::UeIdPair;
-use sim_words::RadioPlace;
+use trace_words::RadioPlace;
 
 /// An association of a phone at a station.
 #[derive(Clone, Copy)]

@@ -6,7 +6,7 @@ use Rattle.trace_words.specs.declared.line.Line.{Line}
 use Rattle.trace_words.specs.declared.line.Line.TheVariants.{In}
 use Rattle.trace_words.specs.declared.fault.TraceFault.{TraceFault}
 use Rattle.trace_words.specs.Trace.{line_text}
-use Rattle.sim_words.specs.Kept.{kept_line}
+use Rattle.trace_words.specs.Kept.{kept_line}
 use Rattle.trace_progress.specs.Effects.{in_event}
 use Rattle.trace_progress.specs.Stopping.{HasTaken, StopsWith}
 use Rattle.trace_progress.specs.declared.fault.PlayFault.{PlayFault}

@@ -16,9 +16,9 @@ use Rattle.trace_progress.specs.declared.progress.Progress.TheVariants.{Nothing,
 use Rattle.trace_progress.specs.Effects.{in_event}
 use Rattle.trace_words.specs.declared.fault.TraceFault.{TraceFault}
 use Rattle.trace_words.specs.declared.fault.TraceFault.TheVariants.{NoMemory}
-use Rattle.sim_words.specs.declared.act.ScriptAct.{ScriptAct}
-use Rattle.sim_words.specs.declared.line.ScriptLine.{ScriptLine}
-use Rattle.sim_words.specs.Script.{script_line_of}
+use Rattle.trace_words.specs.declared.act.ScriptAct.{ScriptAct}
+use Rattle.trace_words.specs.declared.script_line.ScriptLine.{ScriptLine}
+use Rattle.trace_words.specs.Script.{script_line_of}
 use Rattle.sim_crowd.specs.declared.acted.Acted.{Acted}
 use Rattle.sim_crowd.specs.declared.crowd.Crowd.{Crowd}
 use Rattle.sim_crowd.specs.Acting.{Outcome, outcome, setting_up}

@@ -2,7 +2,7 @@
 use Rattle.std.proofs.Common.{◌≡◌, ℕ, List, [], Result, Ok, Err, OnOk, sym, subst}
 use Rattle.trace_words.specs.declared.line.Line.{Line}
 use Rattle.trace_words.specs.declared.fault.TraceFault.{TraceFault}
-use Rattle.sim_words.specs.Kept.{kept_line}
+use Rattle.trace_words.specs.Kept.{kept_line}
 use Rattle.trace_progress.specs.declared.progress.Progress.{Progress}
 use Rattle.sim_printing.specs.Printed.{AddsComments, IsBegun, PrintsOn}
 use Rattle.sim_printing.specs.PrintLaws.{Prints-none, Prints-then, Prints-comments}

@@ -5,9 +5,9 @@ use Rattle.trace_words.specs.declared.line.Line.{Line}
 use Rattle.trace_words.specs.declared.line.Line.TheVariants.{Skip, Mme, Sub, Vec, Up, Lost, In, Tick, Data, Cancel, Show}
 use Rattle.trace_words.specs.declared.fault.TraceFault.{TraceFault}
 use Rattle.trace_words.specs.declared.fault.TraceFault.TheVariants.{Order}
-use Rattle.sim_words.specs.declared.line.ScriptLine.{ScriptLine}
-use Rattle.sim_words.specs.declared.line.ScriptLine.TheVariants as script
-use Rattle.sim_words.specs.Script.{script_line_of}
+use Rattle.trace_words.specs.declared.script_line.ScriptLine.{ScriptLine}
+use Rattle.trace_words.specs.declared.script_line.ScriptLine.TheVariants as script
+use Rattle.trace_words.specs.Script.{script_line_of}
 use Rattle.trace_progress.specs.declared.fault.PlayFault.{PlayFault}
 use Rattle.trace_progress.specs.declared.fault.PlayFault.TheVariants.{Trace, Read, Write, NoMemory}
 use Rattle.trace_progress.specs.declared.progress.Progress.{Progress}

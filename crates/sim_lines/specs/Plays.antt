@@ -8,11 +8,11 @@ use Rattle.trace_words.specs.declared.fault.TraceFault.{TraceFault}
 use Rattle.trace_words.specs.Trace.{line_text}
 use Rattle.trace_progress.specs.declared.progress.Progress.TheVariants.{Running}
 use Rattle.trace_progress.specs.Effects.{effect_of, running, states_of_imsi}
-use Rattle.sim_words.specs.declared.act.ScriptAct.{ScriptAct}
-use Rattle.sim_words.specs.declared.act.ScriptAct.TheVariants.{Station, Up, Raw, Radio, Phone}
-use Rattle.sim_words.specs.declared.line.ScriptLine.{ScriptLine}
-use Rattle.sim_words.specs.declared.line.ScriptLine.TheVariants.{Trace, Act}
-use Rattle.sim_words.specs.Script.{script_line_of}
+use Rattle.trace_words.specs.declared.act.ScriptAct.{ScriptAct}
+use Rattle.trace_words.specs.declared.act.ScriptAct.TheVariants.{Station, Up, Raw, Radio, Phone}
+use Rattle.trace_words.specs.declared.script_line.ScriptLine.{ScriptLine}
+use Rattle.trace_words.specs.declared.script_line.ScriptLine.TheVariants.{Trace, Act}
+use Rattle.trace_words.specs.Script.{script_line_of}
 use Rattle.sim_crowd.specs.declared.acted.Acted.{Acted}
 use Rattle.sim_crowd.specs.declared.acted.Acted.TheVariants.{Skipped, Silent, Sends}
 use Rattle.sim_crowd.specs.declared.crowd.Crowd.{Crowd}

@@ -15,10 +15,9 @@ use identity_slots::StationNumber;
 use mme_core::Outs;
 use sim_crowd::Acted;
 use sim_printing::{is_begun, play_in, play_up, push_skipped};
-use sim_words::ScriptAct;
 use std::alloc::{AllocError, Global};
 use trace_progress::PlayFault;
-use trace_words::TraceFault;
+use trace_words::{ScriptAct, TraceFault};
 
 /// What an act does, where there is an MME; else that is the fault of the line of that number.
 pub(crate) fn play_act_line(

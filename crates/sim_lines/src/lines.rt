@@ -1,7 +1,7 @@
 //! The lines that a script shares with a trace.
 
 ghost use Rattle.std.specs.Prelude.{◌≡◌, ◌≢◌, ◌||◌, [], true, OnOk, IfErr};
-ghost use Rattle.sim_words.specs.Kept.{kept_line};
+ghost use Rattle.trace_words.specs.Kept.{kept_line};
 ghost use Rattle.trace_words.specs.declared.line.Line.TheVariants.{Mme, Sub, Vec, Data, Cancel, Show};
 ghost use Rattle.sim_printing.specs.Printed.{IsBegun, PrintsOn, PrintsScriptLine, ReadsAs};
 ghost use Rattle.sim_lines.specs.Events.{IsEventLine};
@@ -19,10 +19,9 @@ use nas_elements::Imsi;
 use sim_printing::{
     is_begun, play_cancel, play_data, play_lost, play_mme, play_show, play_sub, play_tick, play_vec,
 };
-use sim_words::ScriptAct;
 use std::alloc::{AllocError, Global};
 use trace_progress::PlayFault;
-use trace_words::{Line, TraceFault};
+use trace_words::{Line, ScriptAct, TraceFault};
 
 /// What a line does that is read as in a trace; `text` is the line of that number, as it was read.
 pub(crate) fn play_trace_line(

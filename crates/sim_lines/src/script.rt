@@ -1,7 +1,7 @@
 //! A script, line by line.
 
 ghost use Rattle.std.specs.Prelude.{◌≡◌, ◌≢◌, ◌||◌, ◌∷◌, [], false, OnOk, IfErr};
-ghost use Rattle.sim_words.specs.Kept.{kept_in};
+ghost use Rattle.trace_words.specs.Kept.{kept_in};
 ghost use Rattle.trace_progress.specs.Text.{breaks};
 ghost use Rattle.trace_progress.specs.declared.progress.Progress.TheVariants.{Nothing};
 ghost use Rattle.sim_printing.specs.Printed.{PrintsScriptLine};
@@ -13,9 +13,9 @@ ghost use Rattle.sim_lines.specs.Turns.{scene_of};
 use crate::acts::play_act_line;
 use crate::lines::play_trace_line;
 use sim_crowd::Crowd;
-use sim_words::{ScriptLine, first_word_tells, parse_script_line};
 use std::alloc::Global;
 use trace_progress::{PlayFault, Progress, fault_in_line};
+use trace_words::{ScriptLine, first_word_tells, parse_script_line};
 
 /// A script that is being played: the trace that it makes, and its stations and phones.
 #[derive(Drop)]

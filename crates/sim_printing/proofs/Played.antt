@@ -15,8 +15,8 @@ use Rattle.trace_words.specs.declared.line.Line.{Line}
 use Rattle.trace_words.specs.declared.line.Line.TheVariants.{Skip, Mme, Sub, Vec, Tick, Show}
 use Rattle.trace_words.specs.declared.fault.TraceFault.{TraceFault}
 use Rattle.trace_words.specs.Trace.{line_of, ◌>>=◌}
-use Rattle.sim_words.specs.Kept.{kept_line}
-use Rattle.sim_words.specs.Script.{FirstWordTells}
+use Rattle.trace_words.specs.Kept.{kept_line}
+use Rattle.trace_words.specs.Script.{FirstWordTells}
 use Rattle.trace_progress.specs.declared.fault.PlayFault.{PlayFault}
 use Rattle.trace_progress.specs.declared.fault.PlayFault.TheVariants.{Trace, Read, Write, NoMemory}
 use Rattle.trace_progress.specs.Acts.{Acts}

@@ -6,8 +6,8 @@ use Rattle.trace_words.specs.declared.fault.TraceFault.{TraceFault}
 use Rattle.trace_words.specs.Lines.{is_unbroken}
 use Rattle.trace_answers.specs.Lines.{IsLineWithin}
 use Rattle.trace_words.specs.Trace.{line_of, is_skipped, ◌>>=◌}
-use Rattle.sim_words.specs.Kept.{kept_in, kept_line, is_kept_text}
-use Rattle.sim_words.specs.Script.{CommentsAreNotKept, FirstWordTells}
+use Rattle.trace_words.specs.Kept.{kept_in, kept_line, is_kept_text}
+use Rattle.trace_words.specs.Script.{CommentsAreNotKept, FirstWordTells}
 use Rattle.trace_progress.specs.declared.progress.Progress.{Progress}
 use Rattle.trace_progress.specs.Effects.{effect_of}
 use Rattle.trace_progress.specs.Text.{prepended, play, then_play, line_effect, lines_of, breaks}

@@ -10,7 +10,7 @@ use Rattle.trace_words.specs.declared.line.Line.{Line}
 use Rattle.trace_words.specs.declared.line.Line.TheVariants.{Up, Lost, In, Tick, Data, Cancel}
 use Rattle.trace_words.specs.declared.fault.TraceFault.{TraceFault}
 use Rattle.trace_words.specs.Trace.{line_of}
-use Rattle.sim_words.specs.Kept.{kept_in, kept_line}
+use Rattle.trace_words.specs.Kept.{kept_in, kept_line}
 use Rattle.trace_progress.specs.declared.fault.PlayFault.{PlayFault}
 use Rattle.trace_progress.specs.declared.fault.PlayFault.TheVariants.{Trace, Read, Write, NoMemory}
 use Rattle.trace_progress.specs.declared.progress.Progress.{Progress}

@@ -2,7 +2,7 @@
 use Rattle.std.specs.Prelude.{◌≡◌, List, [], Result, Ok}
 use Rattle.trace_words.specs.declared.line.Line.{Line}
 use Rattle.trace_words.specs.declared.fault.TraceFault.{TraceFault}
-use Rattle.sim_words.specs.Kept.{kept_line}
+use Rattle.trace_words.specs.Kept.{kept_line}
 use Rattle.trace_progress.specs.declared.progress.Progress.{Progress}
 use Rattle.trace_progress.specs.Effects.{effect_of}
 use Rattle.trace_progress.specs.Stopping.{HasTakenEvents, StopsWith}

@@ -12,9 +12,9 @@ ghost use Rattle.sim_printing.specs.Shown.{as_comment, sent_comments, with_line}
 use emm_machine::States;
 use mme_core::{Out, StepFault};
 use nas_elements::Imsi;
-use sim_words::comments_are_not_kept;
 use std::alloc::{AllocError, Global};
 use trace_answers::{Answer, sent_line, write_answer};
+use trace_words::comments_are_not_kept;
 
 /// Appends a line. Where memory is refused the output stays.
 pub(crate) fn push_line(text: &[u8], out: &mut Vec<u8>) -> Result<(), AllocError>

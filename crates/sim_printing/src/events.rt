@@ -2,7 +2,7 @@
 
 ghost use Rattle.std.specs.Prelude.{◌≡◌, ◌∷◌, ◌++◌, [], true, false, IfOk, OnOk, OnErr, is_some};
 ghost use Rattle.std.specs.Result.{result_ok};
-ghost use Rattle.sim_words.specs.Kept.{kept_line};
+ghost use Rattle.trace_words.specs.Kept.{kept_line};
 ghost use Rattle.mme_core.specs.World.{reply};
 ghost use Rattle.trace_progress.specs.Effects.{left_by, states_of_imsi};
 ghost use Rattle.trace_progress.specs.Acts.{IsPrefix};
@@ -15,9 +15,9 @@ ghost use Rattle.sim_printing.specs.Shown.{reply_comments, with_reply, with_stat
 use crate::comments::{push_answers, push_line, push_refusal, push_states};
 use mme_core::{Event, Mme, Outs};
 use nas_elements::Imsi;
-use sim_words::first_word_tells;
 use std::alloc::{AllocError, Global};
 use trace_progress::states_of_imsi;
+use trace_words::first_word_tells;
 
 /// Plays an event: appends `text`, the line that says it, and then its answers, each after `# `. What is sent, or None where
 /// the event was refused, and then the MME is as it was. Where memory is refused nothing is appended; the MME is as it was, or

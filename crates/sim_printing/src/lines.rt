@@ -7,7 +7,7 @@
 ghost use Rattle.std.specs.Prelude.{◌≡◌, ◌<◌, ◌≤◌, ◌∷◌, [], true, false, length, Ok, IfOk, OnOk, OnErr, IsNone, is_some};
 ghost use Rattle.trace_words.specs.declared.line.Line.TheVariants.{Mme, Sub, Vec, Up, Lost, In, Tick, Data, Cancel, Show};
 ghost use Rattle.trace_words.specs.Trace.{line_text};
-ghost use Rattle.sim_words.specs.Kept.{kept_line};
+ghost use Rattle.trace_words.specs.Kept.{kept_line};
 ghost use Rattle.mme_core.specs.World.{World};
 ghost use Rattle.mme_core.specs.declared.event.Event.TheVariants as event;
 ghost use Rattle.trace_progress.specs.declared.progress.Progress.TheVariants.{Nothing};
@@ -22,10 +22,9 @@ use identity_slots::{Profile, StationNumber, Vector};
 use mme_core::{Event, Outs};
 use mme_types::Network;
 use nas_elements::Imsi;
-use sim_words::first_word_tells;
 use std::alloc::{AllocError, Global};
 use trace_progress::{PlayFault, Progress, add, give, run, start, states_of_imsi};
-use trace_words::{LONGEST_LINE, write_in, write_lost, write_up};
+use trace_words::{LONGEST_LINE, first_word_tells, write_in, write_lost, write_up};
 
 // ---- provisioning
 

@@ -8,8 +8,8 @@ use Rattle.std.proofs.lemmas.List.Folds.{list_any-append}
 use Rattle.trace_words.specs.declared.line.Line.{Line}
 use Rattle.trace_words.specs.declared.fault.TraceFault.{TraceFault}
 use Rattle.trace_words.specs.declared.fault.TraceFault.TheVariants.{TooLong}
-use Rattle.sim_words.specs.Kept.{kept_in}
-use Rattle.sim_words.specs.Script.{script_line_of}
+use Rattle.trace_words.specs.Kept.{kept_in}
+use Rattle.trace_words.specs.Script.{script_line_of}
 use Rattle.trace_progress.specs.declared.fault.PlayFault.{PlayFault}
 use Rattle.trace_progress.specs.declared.fault.PlayFault.TheVariants.{Trace, Read, Write, NoMemory}
 use Rattle.trace_progress.specs.declared.progress.Progress.{Progress}

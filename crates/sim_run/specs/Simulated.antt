@@ -4,7 +4,7 @@ use Rattle.std.specs.List.{list_any}
 use Rattle.std.specs.Io.KnownBytes.{Consumes, Appends}
 use Rattle.trace_words.specs.declared.line.Line.{Line}
 use Rattle.trace_words.specs.declared.fault.TraceFault.{TraceFault}
-use Rattle.sim_words.specs.Kept.{kept_in}
+use Rattle.trace_words.specs.Kept.{kept_in}
 use Rattle.trace_progress.specs.declared.fault.PlayFault.{PlayFault}
 use Rattle.trace_progress.specs.declared.fault.PlayFault.TheVariants.{Trace, Read, Write, NoMemory}
 use Rattle.trace_progress.specs.declared.progress.Progress.{Progress}

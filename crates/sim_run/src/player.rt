@@ -1,7 +1,7 @@
 //! The player of a script.
 
 ghost use Rattle.std.specs.Prelude.{◌≡◌, ◌||◌, ◌∷◌, [], false, OnOk};
-ghost use Rattle.sim_words.specs.Kept.{kept_in};
+ghost use Rattle.trace_words.specs.Kept.{kept_in};
 ghost use Rattle.trace_progress.specs.declared.progress.Progress.TheVariants.{Nothing};
 ghost use Rattle.sim_lines.specs.Faults.{AnswersFault, ends_provisioning, script_fault};
 ghost use Rattle.sim_run.specs.Simulated.{WritesLine};

@@ -7,10 +7,8 @@ pub use emm_machine::{EcmState, EmmState, States};
 pub use esm_machine::BearerState;
 pub use mme_answering::Owner;
 pub use mme_types::{AggregateBitRate, Apn, Network};
-pub use sim_words::{
-    PhoneWord, RadioPlace, RadioWord, ScriptAct, ScriptLine, StationLine, parse_script_line,
-};
 pub use trace_answers::{Answer, write_answer, write_answer_in};
 pub use trace_words::{
-    LONGEST_LINE, Line, TraceFault, TraceOctets, TraceTicks, parse_line, write_line,
+    LONGEST_LINE, Line, PhoneWord, RadioPlace, RadioWord, ScriptAct, ScriptLine, StationLine,
+    TraceFault, TraceOctets, TraceTicks, parse_line, parse_script_line, write_line,
 };

@@ -3,3 +3,5 @@ pub mod Trace
 pub mod Lines
 pub mod WordLaws
 pub mod Rooms
+pub mod Kept
+pub mod Script

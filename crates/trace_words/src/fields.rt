@@ -13,7 +13,7 @@ use nas_elements::Imsi;
 use std::alloc::Global;
 
 /// Whether a word of a line is this one.
-pub fn is_named(word: &[u8], name: &str) -> bool
+pub(crate) fn is_named(word: &[u8], name: &str) -> bool
     ensures { result ≡ bytes_eq word.now name.now }
 {
     word == name.as_bytes()
@@ -41,7 +41,7 @@ pub(crate) fn decimal(text: &[u8], most: u64) -> Option<u64>
 }
 
 /// A number in decimal digits from `least` to `most`, else BadNumber.
-pub fn number(text: &[u8], least: u64, most: u64) -> Result<u64, TraceFault>
+pub(crate) fn number(text: &[u8], least: u64, most: u64) -> Result<u64, TraceFault>
     requires { most < 2 ^ 60 }
     ensures value { result ≡ number_field least most text.now }
     ensures range { IfOk result (λ n. (least ≤ n) × (n ≤ most)) }
@@ -53,7 +53,7 @@ pub fn number(text: &[u8], least: u64, most: u64) -> Result<u64, TraceFault>
 }
 
 /// The number of a station, 0 to 127, else BadNumber.
-pub fn station(text: &[u8]) -> Result<StationNumber, TraceFault>
+pub(crate) fn station(text: &[u8]) -> Result<StationNumber, TraceFault>
     ensures { result ≡ station_field text.now }
 {
     let value = number(text, 0, 127)?;
@@ -121,7 +121,7 @@ pub(crate) fn plmn(country_text: &[u8], network_text: &[u8]) -> Result<[u8; 3], 
 }
 
 /// Octets: `-` for none, or hex digits of either case, else BadHex.
-pub fn octets(alloc: Global, text: &[u8]) -> Result<TraceOctets, TraceFault>
+pub(crate) fn octets(alloc: Global, text: &[u8]) -> Result<TraceOctets, TraceFault>
     ensures { (result ≡ Err TraceFault.NoMemory) ⊎ (result ≡ octets_field text.now) }
 {
     if text.is_empty() {
@@ -138,7 +138,7 @@ pub fn octets(alloc: Global, text: &[u8]) -> Result<TraceOctets, TraceFault>
 }
 
 /// `N` octets in hex, no more and no fewer, else BadHex.
-pub fn sized_octets<const N: usize>(text: &[u8]) -> Result<[u8; N], TraceFault>
+pub(crate) fn sized_octets<const N: usize>(text: &[u8]) -> Result<[u8; N], TraceFault>
     requires { N < 2 ^ 32 }
     ensures { result ≡ sized_of N text.now }
 {

@@ -117,7 +117,7 @@ fn two_words(line: &[u8]) -> Option<(&[u8], &[u8])>
 }
 
 /// The words of a line: its parts between single spaces, at least one.
-pub fn split_words(alloc: Global, line: &[u8]) -> Result<Vec<&[u8]>, AllocError>
+pub(crate) fn split_words(alloc: Global, line: &[u8]) -> Result<Vec<&[u8]>, AllocError>
     ensures { IfOk result (λ v. map (λ w. w.now) v.items ≡ slice_split (λ c. c == 32) line.now) }
 {
     let mut words = Vec::with_capacity(alloc, USUAL_WORDS)?;
@@ -131,7 +131,7 @@ pub fn split_words(alloc: Global, line: &[u8]) -> Result<Vec<&[u8]>, AllocError>
 }
 
 /// What a line says by its words, where it is neither empty nor a comment; faults as in `parse_line`.
-pub fn parse_words(alloc: Global, words: &[&[u8]]) -> Result<Line, TraceFault>
+pub(crate) fn parse_words(alloc: Global, words: &[&[u8]]) -> Result<Line, TraceFault>
     ensures { (result ≡ Err TraceFault.NoMemory) ⊎ (result ≡ read_words (map (λ w. w.now) words.now)) }
 {
     let Some((word, fields)) = words.split_first() else {

@@ -1,5 +1,5 @@
 use Rattle.sim_lines.proofs.Further.{stays}
-use Rattle.sim_words.specs.declared.act.ScriptAct.TheVariants.{Station, Up, Raw, Radio, Phone}
+use Rattle.trace_words.specs.declared.act.ScriptAct.TheVariants.{Station, Up, Raw, Radio, Phone}
 use Rattle.sim_crowd.specs.Acting.{acting, acting_there, adding_station}
 use Rattle.sim_lines.specs.Plays.{PlaysMessage}
 use Rattle.sim_lines.specs.Turns.{scene_of, uplink_of}

@@ -1,6 +1,6 @@
 use Rattle.std.proofs.Common.{ap, refl, subst, sym, ◌∙◌}
 use Rattle.trace_words.specs.declared.line.Line.{Line}
-use Rattle.sim_words.specs.Kept.{kept_line}
+use Rattle.trace_words.specs.Kept.{kept_line}
 use Rattle.sim_printing.specs.Printed.{Prints}
 use Rattle.sim_printing.specs.PrintLaws.{Prints-none}
 use Rattle.sim_lines.specs.Faults.{fault_of_line}

@@ -1,5 +1,5 @@
 use Rattle.trace_words.specs.declared.line.Line.TheVariants.{Data}
-use Rattle.sim_words.specs.Kept.{kept_line}
+use Rattle.trace_words.specs.Kept.{kept_line}
 use Rattle.mme_core.specs.declared.event.Event.TheVariants as event
 use Rattle.sim_lines.proofs.Printing.{PrintsOn-on}
 use Rattle.sim_lines.proofs.Further.{played, stopped, then_on}

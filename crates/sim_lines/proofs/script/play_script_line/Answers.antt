@@ -3,7 +3,7 @@ use Rattle.trace_words.specs.declared.line.Line.{Line}
 use Rattle.trace_words.specs.declared.fault.TraceFault.{TraceFault}
 use Rattle.sim_printing.specs.Printed.{PrintsScriptLine}
 use Rattle.sim_printing.specs.PrintLaws.{kept_in-read}
-use Rattle.sim_words.specs.declared.line.ScriptLine.TheVariants as said
+use Rattle.trace_words.specs.declared.script_line.ScriptLine.TheVariants as said
 use Rattle.sim_lines.specs.Turns.{scene_of}
 use Rattle.sim_lines.proofs.Playing.{PlaysText-as}
 use Rattle.sim_lines.proofs.script.play_script_line.Goals as goal

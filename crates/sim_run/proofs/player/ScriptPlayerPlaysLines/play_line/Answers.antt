@@ -1,5 +1,5 @@
 use Rattle.std.proofs.Common.{[], ◌∷◌, ap, ◌∙◌}
-use Rattle.sim_words.specs.Kept.{kept_in}
+use Rattle.trace_words.specs.Kept.{kept_in}
 use Rattle.trace_run.specs.OctetLaws.{Appends-nil, Appends-same}
 use Rattle.trace_run.specs.Watching.{failed_after_octets}
 use Rattle.sim_run.proofs.Simulating.{WritesLine-printed, WritesLine-fault, PrintsScriptLine-place, failed-script_line}

@@ -1,5 +1,0 @@
-use Rattle.sim_words.proofs.Kept.{read_alike}
-use Rattle.sim_words.proofs.laws.shared_lines_are_read_alike.Goals as goal
-
-pub returns : goal.returns
-returns c = read_alike

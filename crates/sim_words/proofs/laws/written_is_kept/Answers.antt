@@ -1,5 +1,0 @@
-use Rattle.sim_words.proofs.Kept.{written_kept}
-use Rattle.sim_words.proofs.laws.written_is_kept.Goals as goal
-
-pub returns : goal.returns
-returns c = written_kept c.written_is_read.ensures

@@ -1,0 +1,79 @@
+#!/usr/bin/env python3
+"""A front that is changed in a way: changed_front.py CHANGE.. run WORD.. Each change is one of these.
+
+    hurried    a standby leads after a shorter silence, which is still many ticks of a test; the store's size is looked at often
+    hasty      a silence that is shorter still, so that a leader on a busy machine may be taken to be gone
+    patient    a leader waits longer for the store, as tests have to on a machine with other work
+    brief      few lines are given at a time, and a leader waits a shorter time for the store
+    ahead      its time of day is an hour later
+    unheld     answers go out before their turn is committed, which has to be found
+    unfenced   a turn is written whoever leads, which has to be found
+    hanging    the loop turns no more once a station sends f5
+"""
+import datetime
+import json
+import pathlib
+import sys
+import time
+
+sys.dont_write_bytecode = True
+if __name__ == "__main__":
+    TOP = pathlib.Path(__file__).resolve().parents[2]
+    sys.path[0] = str(TOP)
+    sys.path.append(str(TOP / "python"))
+from tools.fronting import command, crowd, exchange, limits, resuming, standby, stored
+
+SILENCE_SECONDS, SHORTER, UNCOMMITTED_SECONDS = 1, 0.3, 60
+HANGING_SECONDS = 1
+LINES_OCTETS, BRIEF_SECONDS = 100, 2
+
+
+def hurried():
+    limits.SILENCE_SECONDS, limits.ROOM_SECONDS = SILENCE_SECONDS, 0.2
+
+
+def hasty():
+    limits.SILENCE_SECONDS = SHORTER
+
+
+def patient():
+    limits.UNCOMMITTED_SECONDS = UNCOMMITTED_SECONDS
+
+
+def brief():
+    limits.LONGEST_STORED, limits.UNCOMMITTED_SECONDS = LINES_OCTETS, BRIEF_SECONDS
+
+
+def ahead():
+    def later():
+        return (datetime.datetime.now(datetime.timezone.utc) + datetime.timedelta(hours=1)).strftime(resuming.TIME_FORMAT)
+
+    resuming.clock = standby.clock = stored.clock = later
+
+
+def unheld():
+    exchange.Exchange.do = lambda self, turn, act, *given: act(*given)
+
+
+def unfenced():
+    step = stored.Scheme.step
+    stored.Scheme.step = lambda self, *given: json.dumps({**json.loads(step(self, *given)), "compare": []}).encode()
+
+
+def hanging():
+    limits.HANGING_SECONDS, put = HANGING_SECONDS, crowd.Crowd.put
+
+    def hangs(self, stations, messages):
+        if b"\xf5" in messages:
+            time.sleep(3600)
+        put(self, stations, messages)
+
+    crowd.Crowd.put = hangs
+
+
+CHANGES = {change.__name__: change for change in (hurried, hasty, patient, brief, ahead, unheld, unfenced, hanging)}
+
+if __name__ == "__main__":
+    while sys.argv[1] in CHANGES:
+        CHANGES[sys.argv.pop(1)]()
+    sys.exit(command.main(""))
