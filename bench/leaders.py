@@ -1,7 +1,8 @@
 #!/usr/bin/env python3
 """A storm of phones while the leader of a log in etcd is killed, or paused and woken, again and again: is anything ever used twice?
 
-    leaders.py [--mme PROGRAM | --library] [--seconds N | --runs N] [--phones N] [--seed N] [--ends WORD ..] [--members] [--first]
+    leaders.py [--mme PROGRAM | --library] [--seconds N | --runs N] [--phones N] [--seed N] [--ends WORD ..] [--members]
+               [--until WORDS]
 
 Three members of etcd and two fronts run on this machine, one of which stands by. The phones and what is looked for are those of
 kills.py. --ends has how a leader ends, each time one of these; kill and pause where it isn't given:
@@ -16,6 +17,7 @@ Prints what was counted, and each violation with its octets; the status is 1 whe
 import contextlib
 import itertools
 import pathlib
+import re
 import signal
 import sys
 import tempfile
@@ -213,7 +215,12 @@ class Storm(kills.Storm):
         return complete in self.turns
 
     def part(self):
-        return 1.0 if self.given.first and self.watch.violations else super().part()
+        return 1.0 if self.has_found() else super().part()
+
+    def has_found(self):
+        """Whether what it is to go on until was found."""
+        until = self.given.until
+        return until is not None and any(re.search(until, violation) for violation in self.watch.violations)
 
     def close_all(self):
         """All fronts are ended."""
@@ -224,7 +231,7 @@ class Storm(kills.Storm):
 def parser(description=__doc__):
     words = kills.parser(description, Storm)
     words.set_defaults(ends=["kill", "pause"])
-    words.add_argument("--first", action="store_true", help="end with the run of the first violation")
+    words.add_argument("--until", metavar="WORDS", help="end with the run of the first violation that this regular expression finds")
     words.add_argument("--members", action="store_true", help="one of etcd's members is killed before each end, and comes back")
     return words
 

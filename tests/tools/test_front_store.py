@@ -58,7 +58,7 @@ class Storms(unittest.TestCase):
 
     def finds(self, *changes):
         """Whether a storm finds what is used twice, where a front is changed."""
-        storm, said = self.blown("--runs", "15", "--ends", "rest", "--first", changes=(*HURRIED, *changes))
+        storm, said = self.blown("--runs", "30", "--ends", "rest", "--until", USED_TWICE, changes=(*HURRIED, *changes))
         self.assertRegex("\n".join(storm.watch.violations), USED_TWICE, said)
 
     def test_unheld(self):
