@@ -10,6 +10,7 @@ import re
 import shlex
 import shutil
 import signal
+import socket
 import subprocess
 import tempfile
 import threading
@@ -72,9 +73,31 @@ class Answers(unittest.TestCase):
             reply = self.read(b"HTTP/1.1 400 No\r\nContent-Length: %d\r\n\r\n" % len(text) + text, 9)
             self.assertEqual(reply.is_of_nobody, is_of_nobody)
         for octets in (b"HTTP/1.1 200 OK\r\nContent-Length: 2\r\n\r\n[]", b"HTTP/1.1 200 OK\r\nContent-Length: 1\r\n\r\nx",
-                       b"no\r\n\r\n"):
-            with self.assertRaises((ValueError, IndexError)):
+                       b"no\r\n\r\n", b"HTTP/1.1 OK\r\n\r\n",
+                       b"HTTP/1.1 200 OK\r\nTransfer-Encoding: chunked\r\n\r\n-5\r\n{}\r\n0\r\n\r\n"):
+            with self.assertRaises(ValueError):
                 self.read(octets, 100)
+
+    def test_what_is_not_a_member(self):
+        """Who answers something else, or lets nobody in by a token, gets no more said; the call has a fault in words."""
+        body = b'{"header": {}}'
+        for answer, words in ((b"220 ready\r\n\r\n", etcd.UNREADABLE), (b"ready\r\n\r\n", etcd.UNREADABLE),
+                              (b"HTTP/1.1 200 OK\r\nContent-Length: %d\r\n\r\n%s" % (len(body), body), etcd.UNREADABLE),
+                              (b"HTTP/1.1 200 OK\r\nContent-Length: 2\r\n\r\n{}", etcd.UNREADABLE), (b"", "it ended the connection")):
+            with self.subTest(answer=answer), socket.create_server(("127.0.0.1", 0)) as server:
+                access = etcd.access_of(["http://127.0.0.1:%d" % server.getsockname()[1]])._replace(user="x", password="y")
+                loop, told = Loop(), []
+                self.addCleanup(loop.close)
+                etcd.Etcd(loop, access).call(etcd.RANGE, b"{}", lambda found, fault: told.append((found, fault)))
+                peer = server.accept()[0]
+                loop.turn()
+                self.assertIn(b"POST " + etcd.AUTHENTICATE.encode(), peer.recv(1000))
+                peer.sendall(answer)
+                peer.close()
+                end = time.monotonic() + PATIENCE
+                while not told and time.monotonic() < end:
+                    loop.turn()
+                self.assertEqual(told, [(None, ("%s: %s" % (access.endpoints[0], words), False))])
 
 
     def test_text(self):

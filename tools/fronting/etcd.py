@@ -24,6 +24,7 @@ AUTHENTICATE, RANGE, TXN, METRICS = "/v3/auth/authenticate", "/v3/kv/range", "/v
 REFUSALS, UNAUTHENTICATED = (3, 7), 16
 OLD_USERS, NO_ROOM = "revision of auth store is old", "space exceeded"  # users changed since; the quota is reached
 LATE, LONGEST_WORDS = "no answer within", 200
+UNREADABLE = "what it answers can't be read"
 WOULD_BLOCK = (BlockingIOError, ssl.SSLWantReadError, ssl.SSLWantWriteError)
 
 
@@ -156,7 +157,7 @@ class Reply:
             return False
         first, *lines = self.received[:end].decode("latin-1").split("\r\n")
         fields = {name.strip().lower(): value.strip().lower() for name, _, value in (line.partition(":") for line in lines)}
-        self.status, self.at = int(first.split(" ")[1]), end + 4
+        self.status, self.at = int(first.partition(" ")[2][:3]), end + 4
         self.is_chunked = fields.get("transfer-encoding") == "chunked"
         self.length, self.closes = int(fields.get("content-length", 0)), fields.get("connection") == "close"
         return True
@@ -165,6 +166,8 @@ class Reply:
         """Reads the chunks that are whole; after the last one may come further fields (RFC 9112 clause 7.1)."""
         while (end := self.received.find(b"\r\n", self.at)) >= 0:
             size = int(self.received[self.at:end].partition(b";")[0], 16)
+            if size < 0:
+                raise ValueError
             if not size:
                 self.is_whole = self.received.find(b"\r\n\r\n", end) >= 0
                 return
@@ -247,7 +250,7 @@ class Etcd:
             if reply is None:
                 self.go_on()
         except (OSError, ValueError) as fault:  # of the system, or of what isn't an answer
-            self.fail(told(fault) if isinstance(fault, OSError) else "what it answers can't be read")
+            self.fail(told(fault) if isinstance(fault, OSError) else UNREADABLE)
             return
         if reply is not None:
             self.is_answered(reply)
@@ -306,8 +309,11 @@ class Etcd:
         if reply.closes:
             self.close()
         if is_of_user and reply.status == 200:
-            self.token = reply.found["token"]
-            self.send()
+            self.token = reply.found.get("token")
+            if self.token:
+                self.send()
+            else:
+                self.fail(UNREADABLE)
         elif not is_of_user and reply.is_of_nobody and self.access.user is not None:
             self.token = None
             self.send()
