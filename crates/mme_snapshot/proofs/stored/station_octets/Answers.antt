@@ -1,0 +1,12 @@
+use Rattle.std.proofs.Common.{◌≡◌, ◌∙◌, List, ap, sym}
+use Rattle.s1ap_elements.specs.declared.station.SupportedTa.{SupportedTa}
+use Rattle.s1ap_elements.specs.StationLaws.{supported_tas_again}
+use Rattle.per_bits.specs.WritingLaws.{complete_written}
+use Rattle.mme_types.specs.declared.stations.StationState.TheVariants.{Ready}
+use Rattle.snapshot_formats.specs.Formats.{saved_station}
+use Rattle.snapshot_formats.specs.Heads.{typed_saved_station}
+use Rattle.snapshot_formats.specs.declared.head.SavedStation.TheVariants as saved
+use Rattle.mme_snapshot.proofs.stored.station_octets.Goals as goal
+
+pub returns-in-Ok : goal.returns-in-Ok
+returns-in-Ok c = ?
