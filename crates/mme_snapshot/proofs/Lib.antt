@@ -16,3 +16,7 @@ pub mod Subscribers
 pub mod Counting
 pub mod Progress
 pub mod SavedStations
+pub mod Places
+pub mod VectorsWritten
+pub mod SavedStrangers
+pub mod SavedSubscribers

@@ -1,19 +1,21 @@
 //! An MME as octets, part after part.
 
-ghost use Rattle.std.specs.Prelude.{◌≡◌, ◌+◌, ◌≤◌, ◌++◌, [], length, slice_get, Ok, Some, IfOk, OnOk};
+ghost use Rattle.std.specs.Prelude.{◌≡◌, ◌+◌, ◌^◌, ◌≤◌, ◌++◌, [], length, slice_get, true, Ok, Some, IfOk, OnOk};
+ghost use Rattle.nas_elements.specs.Digits.{is_imsi};
 ghost use Rattle.per_bits.specs.Spelling.{SpellsWhole};
 ghost use Rattle.sorted_list.specs.Sorted.{lowest_from};
-ghost use Rattle.per_bits.specs.Formats.{number};
+ghost use Rattle.per_bits.specs.Formats.{Value, number};
 ghost use Rattle.emm_machine.specs.SubscriberView.{SubscriberView};
 ghost use Rattle.stranger_machine.specs.Table.{known_id, stranger_at};
 ghost use Rattle.stranger_machine.specs.declared.state.Stranger.{Stranger};
 ghost use Rattle.mme_core.specs.Remembered.{remembered};
-ghost use Rattle.snapshot_formats.specs.Formats.{saved_subscriber};
+ghost use Rattle.snapshot_formats.specs.Formats.{saved_head, saved_subscriber};
 ghost use Rattle.snapshot_formats.specs.Subscribers.{typed_saved_state};
 ghost use Rattle.emm_state.specs.Taking.{vectors_spent};
+ghost use Rattle.mme_snapshot.specs.Images.{is_label, named_head};
 ghost use Rattle.mme_snapshot.specs.Stored.{stored_subscriber};
 ghost use Rattle.mme_snapshot.specs.Restored.{restored};
-ghost use Rattle.mme_snapshot.specs.Saved.{AreStations, IsFirst, IsNextStranger, IsSavedPart, IsStranger, IsSubscriber, subscriber_from};
+ghost use Rattle.mme_snapshot.specs.Saved.{AreStations, IsFirst, IsNextStranger, IsSavedPart, IsStranger, IsSubscriber, head_of, subscriber_from};
 
 use crate::fault::SaveFault;
 use crate::laws::parts_restore;
@@ -27,6 +29,7 @@ use identity_slots::{AssociationId, Slot};
 use mme_core::Mme;
 use mme_tables::Strangers;
 use mme_types::StationState;
+use nas_elements::Imsi;
 use per_bits::{BitWriter, PerError, Whole};
 use snapshot_formats::SavedRepeat;
 use std::alloc::{AllocError, Global};
@@ -80,24 +83,39 @@ fn count_of(strangers: &Strangers) -> u64
     count
 }
 
+// The network, where the clock began, and where it is.
+fn save_head(alloc: Global, mme: &Mme) -> Result<Vec<u8>, SaveFault>
+    ensures { IfOk result (λ v. (h : Value saved_head) × (named_head h ≡ head_of mme.now) × (is_label h.0.1.1.1.0 ≡ true)
+        × SpellsWhole saved_head h v.items) }
+{
+    let parts = mme.parts();
+    match stored_head(parts.config, parts.clock) {
+        Some(head) => spelled(alloc, &head, SaveFault::First),
+        None => Err(SaveFault::First),
+    }
+}
+
+// How many strangers there are.
+fn save_stranger_count(alloc: Global, mme: &Mme) -> Result<Vec<u8>, SaveFault>
+    ensures { IfOk result (λ v. SpellsWhole (number 0 4294967295) (length mme.now.strangers) v.items) }
+{
+    let owners = mme.parts().owners;
+    match Whole::<0, 4294967295>::try_new(count_of(&owners.records.strangers)) {
+        Some(count) => spelled(alloc, &count, SaveFault::First),
+        None => Err(SaveFault::First),
+    }
+}
+
 // What stands first.
 fn save_first(alloc: Global, mme: &Mme) -> Result<Vec<u8>, SaveFault>
     ensures { IfOk result (λ v. IsFirst mme.now v.items) }
 {
-    let parts = mme.parts();
-    let Some(head) = stored_head(parts.config, parts.clock) else {
-        return Err(SaveFault::First);
-    };
-    let owners = parts.owners;
-    let Some(count) = Whole::<0, 4294967295>::try_new(count_of(&owners.records.strangers)) else {
-        return Err(SaveFault::First);
-    };
+    let head = save_head(alloc, mme)?;
+    let count = save_stranger_count(alloc, mme)?;
+    let stations = save_stations(alloc, mme.parts().stations.as_slice())?;
     let mut octets = spelled(alloc, &Whole::<0, 255>::new(VERSION), SaveFault::First)?;
-    let head = spelled(alloc, &head, SaveFault::First)?;
     append(&mut octets, head.as_slice())?;
-    let stations = save_stations(alloc, parts.stations.as_slice())?;
     append(&mut octets, stations.as_slice())?;
-    let count = spelled(alloc, &count, SaveFault::First)?;
     append(&mut octets, count.as_slice())?;
     Ok(octets)
 }
@@ -143,6 +161,7 @@ fn save_stranger(alloc: Global, mme: &Mme, id: AssociationId) -> Result<Vec<u8>,
 fn subscriber_octets(alloc: Global, stored: &Stored) -> Result<Vec<u8>, PerError>
     requires asked { vectors_spent stored.now.subscriber.now.solo ≤ stored.now.spent }
     requires all { stored.now.spent + stored.now.unspent ≡ length stored.now.subscriber.now.setting.vectors }
+    requires few { stored.now.spent + stored.now.unspent ≤ 2 ^ 63 }
     ensures { IfOk result (λ v. SpellsWhole saved_subscriber
         (stored_subscriber stored.now.subscriber.now.setting stored.now.spent (typed_saved_state stored.now.state)) v.items) }
 {
@@ -154,13 +173,23 @@ fn subscriber_octets(alloc: Global, stored: &Stored) -> Result<Vec<u8>, PerError
 // The room for what is stored of a subscriber.
 fn room_for(stored: &Stored) -> usize {
     let repeat = match &stored.state.waits.repeat {
-        Some(SavedRepeat::Nas(nas)) => nas.nas.octets.len(),
+        Some(SavedRepeat::Nas(saved)) => {
+            let nas = saved.nas.octets;
+            nas.len()
+        }
         Some(SavedRepeat::Paging(_)) | None => 0,
     };
     ROOM_OF_VECTOR
         .saturating_mul(stored.unspent)
         .saturating_add(ROOM)
         .saturating_add(repeat)
+}
+
+// An IMSI has fourteen or fifteen digits.
+fn know_imsi(imsi: Imsi)
+    ensures { is_imsi imsi ≡ true }
+{
+    let _ = imsi;
 }
 
 // The subscriber of a slot.
@@ -173,18 +202,18 @@ fn save_subscriber(alloc: Global, mme: &Mme, slot: Slot) -> Result<Vec<u8>, Save
     let Some(lent) = owners.look(slot) else {
         return Err(fault);
     };
+    know_imsi(lent.subscriber.setting().profile.imsi);
     let connection = lent.subscriber.solo().connection;
     if !is_placed(&owners.records.strangers, slot, connection) {
         return Err(fault);
     }
-    let stored = match stored_subscriber(alloc, lent) {
-        Ok(Some(stored)) => stored,
-        Ok(None) => return Err(fault),
-        Err(AllocError) => return Err(SaveFault::NoMemory),
-    };
-    match subscriber_octets(alloc, &stored) {
-        Ok(octets) => Ok(octets),
-        Err(error) => Err(fault.of(error)),
+    match stored_subscriber(alloc, lent) {
+        Ok(Some(stored)) => match subscriber_octets(alloc, &stored) {
+            Ok(octets) => Ok(octets),
+            Err(error) => Err(fault.of(error)),
+        },
+        Ok(None) => Err(fault),
+        Err(AllocError) => Err(SaveFault::NoMemory),
     }
 }
 
@@ -199,9 +228,9 @@ fn part_of(octets: Vec<u8>, next: Option<Part>) -> SavedPart
     }
 }
 
-/// A part of the snapshot of an MME: its octets, and which part comes next. Parts in their order, from the first on, are the snapshot
-/// (`parts_restore`), as long as nothing happens to the MME between them. First, Stranger or Subscriber where a restore wouldn't take
-/// what it is about, and for a slot that nobody has; then NoMemory.
+/// A part of the snapshot of an MME: its octets, and which part comes next. Parts in their order, from the first on, are the
+/// snapshot (`parts_restore`), as long as nothing happens to the MME between them. First, Stranger or Subscriber where a restore
+/// wouldn't take what it is about, and for a slot that nobody has; then NoMemory.
 pub fn save_part(alloc: Global, mme: &Mme, part: Part) -> Result<SavedPart, SaveFault>
     ensures { IfOk result (λ p. IsSavedPart mme.now part p.octets p.next) }
 {
@@ -230,21 +259,31 @@ fn save_from(alloc: Global, mme: &Mme, least: u64) -> Result<SavedPart, SaveFaul
     }
 }
 
+// A part after those before it; nothing is left of its own octets.
+fn add_part(alloc: Global, octets: &mut SavedOctets, part: SavedOctets) -> Result<(), SaveFault>
+    ensures { OnOk result (octets.new ≡ octets.old ++ part) }
+{
+    let added = octets.add(alloc, part.as_slice());
+    part.forget();
+    match added {
+        Ok(()) => Ok(()),
+        Err(AllocError) => Err(SaveFault::NoMemory),
+    }
+}
+
 // All parts in their order, one after another.
 fn save_each(alloc: Global, mme: &Mme, octets: &mut SavedOctets) -> Result<(), SaveFault>
     requires { octets.old ≡ [] }
     ensures { OnOk result (restored octets.new ≡ Ok (remembered mme.now)) }
 {
     parts_restore();
+    // (that no two have one IMSI or one address)
+    let _ = mme.parts().provision.len();
     let mut next = Some(Part::First);
     while let Some(part) = next {
-        let saved = save_part(alloc, mme, part)?;
-        let added = octets.add(alloc, saved.octets.as_slice());
-        saved.octets.forget();
-        if added.is_err() {
-            return Err(SaveFault::NoMemory);
-        }
-        next = saved.next;
+        let SavedPart { octets: saved, next: after } = save_part(alloc, mme, part)?;
+        add_part(alloc, octets, saved)?;
+        next = after;
     }
     Ok(())
 }

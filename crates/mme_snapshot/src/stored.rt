@@ -1,7 +1,7 @@
 //! What of an MME stands in the parts of a snapshot.
 
 ghost use Rattle.std.specs.Prelude.{◌≡◌, ◌+◌, ◌≤◌, ◌^◌, not, true, drop, length, map, IfOk, IfSome};
-ghost use Rattle.per_bits.specs.Formats.{Value};
+ghost use Rattle.per_bits.specs.Formats.{Value, items};
 ghost use Rattle.per_bits.specs.Reading.{GivesWhole};
 ghost use Rattle.per_bits.specs.Spelling.{SpellsWhole};
 ghost use Rattle.per_bits.specs.Writing.{complete_write, write_at, write_each};
@@ -12,9 +12,9 @@ ghost use Rattle.stranger_machine.specs.Lent.{lent_now as stranger_now};
 ghost use Rattle.mme_owners.specs.Lent.{lent_now};
 ghost use Rattle.snapshot_formats.specs.Formats.{saved_station, saved_subscriber, saved_vector};
 ghost use Rattle.snapshot_formats.specs.Heads.{typed_saved_head, typed_saved_station, typed_saved_stranger, typed_saved_stranger_state, typed_saved_waiting};
-ghost use Rattle.snapshot_formats.specs.Subscribers.{typed_saved_state, typed_saved_vector};
+ghost use Rattle.snapshot_formats.specs.Subscribers.{typed_saved_state};
 ghost use Rattle.snapshot_formats.specs.declared.head.SavedStation.TheVariants.{Ready};
-ghost use Rattle.snapshot_states.specs.Fit.{fits, fits_vector};
+ghost use Rattle.snapshot_states.specs.Fit.{fits};
 ghost use Rattle.snapshot_states.specs.Saving.{HasOwnKey};
 ghost use Rattle.snapshot_states.specs.States.{named_state};
 ghost use Rattle.mme_snapshot.specs.Images.{is_label, is_timed, known_of, named_head, named_kept, named_station, named_stranger};
@@ -29,12 +29,13 @@ use mme_owners::LentSubscriber;
 use mme_types::{Apn, StationState};
 use nas_elements::timers;
 use per_bits::{
-    BitWriter, Element, OctetString, Octets, PerError, SizedString, Whole, put_number, write_choice,
+    BitWriter, Element, OctetString, Octets, PerError, SizedString, Whole, put_aligned, put_number,
+    write_choice,
 };
 use s1ap_elements::SupportedTas;
 use snapshot_formats::{
     GREATEST_LONG, LentKey, SavedHead, SavedNetwork, SavedState, SavedStation, SavedStranger,
-    SavedStrangerState, SavedVector, SavedWaiting,
+    SavedStrangerState, SavedWaiting,
 };
 use snapshot_states::{Clocks, saved_state, vectors_spent};
 use std::alloc::{AllocError, Global};
@@ -159,21 +160,19 @@ pub(crate) fn stored_stranger<'a>(
     }
 }
 
-// A vector, its secrets lent.
-fn saved_vector<'a>(vector: &'a Vector) -> SavedVector<'a>
-    ensures vector { typed_saved_vector result ≡ stored_vector vector.entry.now }
-    ensures fits { fits_vector (typed_saved_vector result) ≡ true }
+// Writes a vector.
+fn write_vector(alloc: Global, vector: &Vector, writer: &mut BitWriter) -> Result<(), PerError>
+    ensures { Wrote result writer.new (write_at saved_vector (stored_vector vector.now) writer.old) }
 {
-    SavedVector {
-        rand: Octets::new(vector.rand),
-        autn: Octets::new(vector.autn),
-        xres: SizedString {
-            octets: vector.xres.as_slice(),
-        },
-        kasme: LentKey {
-            octets: vector.kasme.octets(),
-        },
+    Octets::new(vector.rand).write(alloc, writer)?;
+    Octets::new(vector.autn).write(alloc, writer)?;
+    let xres = vector.xres.as_slice();
+    put_number(4, 16, xres.len() as u64, writer)?;
+    put_aligned(xres, writer)?;
+    LentKey {
+        octets: vector.kasme.octets(),
     }
+    .write(alloc, writer)
 }
 
 // How many vectors of a subscriber are spent; none where there are more than were given, or than are stored.
@@ -194,7 +193,8 @@ fn stored_unspent(subscriber: &Subscriber, spent: usize) -> Option<usize>
     requires asked { vectors_spent subscriber.now.solo ≤ spent }
     requires there { spent ≤ length subscriber.now.setting.vectors }
     requires few { spent ≤ 2 ^ 62 }
-    ensures { IfSome result (λ n. spent + n ≡ length subscriber.now.setting.vectors) }
+    ensures all { IfSome result (λ n. spent + n ≡ length subscriber.now.setting.vectors) }
+    ensures few { IfSome result (λ n. n ≤ 65535) }
 {
     for unspent in 0..=MOST_VECTORS {
         if subscriber.vector(spent + unspent).is_none() {
@@ -214,8 +214,9 @@ pub(crate) struct Stored<'a> {
     pub state: SavedState<'a>,
 }
 
-/// What is stored of a subscriber as it is now; none where a restore wouldn't take it, or where a number of it is greater than those
-/// that are stored.
+/// What is stored of a subscriber as it is now; none where a restore wouldn't take it, or where a number of it is greater than
+/// those that are stored.
+#[tactic(auto, unfolding(emm_machine::specs::Ticks::solo_aged))]
 pub(crate) fn stored_subscriber<'a>(
     alloc: Global,
     lent: LentSubscriber<'a>,
@@ -225,8 +226,10 @@ pub(crate) fn stored_subscriber<'a>(
     ensures asked { IfOk result (λ o. IfSome o (λ s. vectors_spent s.subscriber.now.solo ≤ s.spent)) }
     ensures spent { IfOk result (λ o. IfSome o (λ s. s.spent ≡ vectors_spent (lent_now lent.entry).solo)) }
     ensures all { IfOk result (λ o. IfSome o (λ s. s.spent + s.unspent ≡ length (lent_now lent.entry).setting.vectors)) }
-    ensures state { IfOk result (λ o. IfSome o (λ s. named_state s.spent (typed_saved_state s.state) ≡ (lent_now lent.entry).solo)) }
+    ensures state { IfOk result (λ o. IfSome o (λ s.
+        named_state s.spent (typed_saved_state s.state) ≡ (lent_now lent.entry).solo)) }
     ensures fits { IfOk result (λ o. IfSome o (λ s. fits s.spent s.unspent (typed_saved_state s.state) ≡ true)) }
+    ensures few { IfOk result (λ o. IfSome o (λ s. s.spent + s.unspent ≤ 2 ^ 63)) }
 {
     let subscriber = lent.subscriber;
     let Some(spent) = stored_spent(subscriber) else {
@@ -239,32 +242,50 @@ pub(crate) fn stored_subscriber<'a>(
         procedure: lent.procedure(),
         reachable: lent.reachable(),
     };
-    let Some(state) = saved_state(alloc, subscriber.solo(), clocks, unspent)? else {
-        return Ok(None);
-    };
-    Ok(Some(Stored {
-        subscriber,
-        spent,
-        unspent,
-        state,
-    }))
+    match saved_state(alloc, subscriber.solo(), clocks, unspent) {
+        Ok(Some(state)) => Ok(Some(Stored {
+            subscriber,
+            spent,
+            unspent,
+            state,
+        })),
+        Ok(None) => Ok(None),
+        Err(fault) => Err(fault),
+    }
 }
 
-// Writes the vectors of a subscriber that aren't spent.
-fn write_vectors(alloc: Global, stored: &Stored, writer: &mut BitWriter) -> Result<(), PerError>
+// Writes each vector of a subscriber that isn't spent.
+fn write_each_vector(
+    alloc: Global,
+    stored: &Stored,
+    writer: &mut BitWriter,
+) -> Result<(), PerError>
     requires asked { vectors_spent stored.now.subscriber.now.solo ≤ stored.now.spent }
     requires all { stored.now.spent + stored.now.unspent ≡ length stored.now.subscriber.now.setting.vectors }
-    ensures { Wrote result writer.new
-        (write_each (write_at saved_vector) (map stored_vector (drop stored.now.spent stored.now.subscriber.now.setting.vectors)) writer.old) }
+    requires few { stored.now.spent + stored.now.unspent ≤ 2 ^ 63 }
+    ensures { Wrote result writer.new (write_each (write_at saved_vector)
+        (map stored_vector (drop stored.now.spent stored.now.subscriber.now.setting.vectors)) writer.old) }
 {
     let subscriber = stored.subscriber;
     for place in stored.spent..stored.spent + stored.unspent {
-        match subscriber.vector(place) {
-            Some(vector) => saved_vector(vector).write(alloc, writer)?,
-            None => unreachable!(),
-        }
+        let Some(vector) = subscriber.vector(place) else {
+            unreachable!();
+        };
+        write_vector(alloc, vector, writer)?;
     }
     Ok(())
+}
+
+// Writes how many vectors of a subscriber aren't spent, and each of them.
+fn write_vectors(alloc: Global, stored: &Stored, writer: &mut BitWriter) -> Result<(), PerError>
+    requires asked { vectors_spent stored.now.subscriber.now.solo ≤ stored.now.spent }
+    requires all { stored.now.spent + stored.now.unspent ≡ length stored.now.subscriber.now.setting.vectors }
+    requires few { stored.now.spent + stored.now.unspent ≤ 2 ^ 63 }
+    ensures { Wrote result writer.new (write_at (items 0 65535 saved_vector)
+        (map stored_vector (drop stored.now.spent stored.now.subscriber.now.setting.vectors)) writer.old) }
+{
+    put_number(0, MOST_VECTORS as u64, stored.unspent as u64, writer)?;
+    write_each_vector(alloc, stored, writer)
 }
 
 /// Writes what is stored of a subscriber.
@@ -275,6 +296,7 @@ pub(crate) fn write_subscriber(
 ) -> Result<(), PerError>
     requires asked { vectors_spent stored.now.subscriber.now.solo ≤ stored.now.spent }
     requires all { stored.now.spent + stored.now.unspent ≡ length stored.now.subscriber.now.setting.vectors }
+    requires few { stored.now.spent + stored.now.unspent ≤ 2 ^ 63 }
     ensures { Wrote result writer.new (write_at saved_subscriber
         (stored_subscriber stored.now.subscriber.now.setting stored.now.spent (typed_saved_state stored.now.state)) writer.old) }
 {
@@ -284,7 +306,6 @@ pub(crate) fn write_subscriber(
     Octets::new(profile.gateway).write(alloc, writer)?;
     Octets::new(profile.teid).write(alloc, writer)?;
     put_number(0, GREATEST_LONG, stored.spent as u64, writer)?;
-    put_number(0, MOST_VECTORS as u64, stored.unspent as u64, writer)?;
     write_vectors(alloc, stored, writer)?;
     stored.state.write(alloc, writer)
 }

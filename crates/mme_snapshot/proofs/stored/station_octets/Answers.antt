@@ -9,4 +9,8 @@ use Rattle.snapshot_formats.specs.declared.head.SavedStation.TheVariants as save
 use Rattle.mme_snapshot.proofs.stored.station_octets.Goals as goal
 
 pub returns-in-Ok : goal.returns-in-Ok
-returns-in-Ok c = ?
+returns-in-Ok c = (
+  typed_saved_station (saved.Ready c.in-Ready.areas),
+  ap (λ (tas : List SupportedTa). Ready tas) (supported_tas_again c.in-Ready.areas) ∙ sym c.in-Ready.is,
+  complete_written saved_station (typed_saved_station (saved.Ready c.in-Ready.areas)) c.in-Ok.octets.items c.in-Ok.ensures,
+)

@@ -1,0 +1,33 @@
+use Rattle.std.proofs.Common.{◌≡◌, ◌<◌, ℕ, List, Ok, None, Some, Option, sym, subst, ap, ◌∙◌}
+use Rattle.identity_slots.specs.declared.profile.Profile.{Profile}
+use Rattle.mme_core.specs.Remembered.{remembered}
+use Rattle.mme_snapshot.specs.declared.part.Part.{Part}
+use Rattle.mme_snapshot.specs.Saved.{AreProvisioned}
+use Rattle.mme_snapshot.specs.Restored.{restored}
+use Rattle.mme_snapshot.proofs.Progress.{SavedSoFar, all_saved, fewer_left, left_from, none_saved, one_saved}
+use Rattle.mme_snapshot.proofs.saving.save_each.Goals as goal
+
+pub loop-part-init : goal.loop-part-init
+loop-part-init c = none_saved c.args.mme.now c.args.octets.now c.requires
+
+pub loop-part-preserved : goal.loop-part-preserved
+loop-part-preserved c =
+    let w = c.args.mme.now in
+    one_saved w c.loop-part.octets c.add_part.new.octets c.in_ok-saved.saved c.in-Some.part c.in_ok-saved.after
+    (subst (λ (o : Option Part). SavedSoFar w c.loop-part.octets o) c.in-Some.is c.loop-part.invariant)
+    c.in_ok-saved.ensures c.in_ok-add_part.ensures
+
+pub loop-part-smaller : goal.loop-part-smaller
+loop-part-smaller c =
+    let w = c.args.mme.now in
+    subst (λ (o : Option Part). left_from w c.in_ok-saved.after < left_from w o) (sym c.in-Some.is)
+    (fewer_left w c.in-Some.part c.in_ok-saved.saved c.in_ok-saved.after c.in_ok-saved.ensures)
+
+pub returns : goal.returns
+returns c =
+    let w = c.args.mme.now in
+    let done = all_saved w c.loop-part.octets (subst (λ (o : Option Part). SavedSoFar w c.loop-part.octets o) c.in_default.is c.loop-part.invariant) in
+    let own : AreProvisioned c.parts.result.provision.now.profiles =
+    record { imsis = c.len.ensures.imsis; addresses = c.len.ensures.addresses; few = c.len.ensures.few } in
+    ap restored done.1
+    ∙ c.parts_restore.ensures w done.0 c.parts.ensures.kept (subst AreProvisioned c.parts.ensures.profiles own) done.2
