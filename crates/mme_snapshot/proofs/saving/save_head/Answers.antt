@@ -12,8 +12,8 @@ pub returns-in-Some : goal.returns-in-Some
 returns-in-Some c =
     IfOk-weaker c.spelled.result _ _ (λ v h. (
       typed_saved_head c.in-Some.head,
-      c.in-Some.ensures.head ∙ ap (λ (k : Config). head_from k c.parts.result.clock) c.parts.ensures.config
-      ∙ ap (head_from c.args.mme.now.sight.config) c.parts.ensures.clock,
+      c.in-Some.ensures.head ∙ ap (λ (k : Config). head_from k c.parts-parts.result.clock) c.parts-parts.ensures.config
+      ∙ ap (head_from c.args.mme.now.sight.config) c.parts-parts.ensures.clock,
       c.in-Some.ensures.label,
       h,
     )) c.spelled.ensures
