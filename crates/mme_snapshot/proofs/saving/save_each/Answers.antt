@@ -13,15 +13,15 @@ loop-next-init c = none_saved c.args.mme.now c.args.octets.now c.requires
 pub loop-next-preserved : goal.loop-next-preserved
 loop-next-preserved c =
     let w = c.args.mme.now in
-    one_saved w c.loop-next.octets c.add_part.new.octets c.in_ok-saved.saved c.in-Some.part c.in_ok-saved.after
+    one_saved w c.loop-next.octets c.add_part.new.octets c.in_ok-saved.field-0.octets c.in-Some.part c.in_ok-saved.field-0.next
     (subst (λ (o : Option Part). SavedSoFar w c.loop-next.octets o) c.in-Some.is c.loop-next.invariant)
     c.in_ok-saved.ensures c.in_ok-add_part.ensures
 
 pub loop-next-smaller : goal.loop-next-smaller
 loop-next-smaller c =
     let w = c.args.mme.now in
-    subst (λ (o : Option Part). left_from w c.in_ok-saved.after < left_from w o) (sym c.in-Some.is)
-    (fewer_left w c.in-Some.part c.in_ok-saved.saved c.in_ok-saved.after c.in_ok-saved.ensures)
+    subst (λ (o : Option Part). left_from w c.in_ok-saved.field-0.next < left_from w o) (sym c.in-Some.is)
+    (fewer_left w c.in-Some.part c.in_ok-saved.field-0.octets c.in_ok-saved.field-0.next c.in_ok-saved.ensures)
 
 pub returns : goal.returns
 returns c =

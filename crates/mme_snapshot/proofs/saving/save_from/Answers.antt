@@ -1,10 +1,9 @@
-use Rattle.std.proofs.Common.{◌≡◌, ◌∙◌, ◌+◌, ℕ, List, Some, ap, subst, sym}
+use Rattle.std.proofs.Common.{◌≡◌, ◌∙◌, ◌+◌, ℕ, List, Some, ap, subst, sym, rules}
 use Rattle.std.specs.Prelude.{option_map}
 use Rattle.sorted_list.specs.Ordered.{Rising}
 use Rattle.sorted_list.specs.Sorted.{lowest_from}
 use Rattle.stranger_machine.specs.declared.table.Known.{Known}
 use Rattle.stranger_machine.specs.Table.{known_id}
-use Rattle.mme_owners.specs.Owners.{OwnersView, RecordsView}
 use Rattle.mme_snapshot.specs.declared.part.Part.TheVariants as part
 use Rattle.mme_snapshot.specs.Saved.{IsStranger}
 use Rattle.mme_snapshot.proofs.SavedStrangers.{next_stranger}
@@ -14,9 +13,8 @@ pub returns-in_ok-save_stranger-in-Some : goal.returns-in_ok-save_stranger-in-So
 returns-in_ok-save_stranger-in-Some c =
     let w = c.args.mme.now in
     let id = c.in-Some.id in
-    let all : c.owners-inside.inside.strangers.strangers ≡ w.strangers =
-    ap (λ (r : RecordsView). r.strangers) c.owners-inside.view_is ∙ ap (λ (o : OwnersView). o.strangers) c.owners.view_is
-    ∙ c.parts.ensures.strangers in
+    let all : c.owners-inside.inside.0.0.strangers.strangers ≡ w.strangers =
+    search rules in
     let one = c.in_ok-save_stranger-in-Some.ensures in
     next_stranger w c.args.least c.part_of.result.octets c.part_of.result.next id one.0
     (subst (λ (ks : List Known). Rising known_id ks) all c.in-Some.ensures.order)

@@ -1,4 +1,4 @@
-use Rattle.std.proofs.Common.{◌≡◌, ◌∙◌, ℕ, List, Some, true, refl, sym, ap, subst}
+use Rattle.std.proofs.Common.{◌≡◌, ◌∙◌, ℕ, List, Some, true, refl, sym, ap, subst, rules}
 use Rattle.std.specs.Prelude.{slice_get}
 use Rattle.per_bits.specs.Spelling.{SpellsWhole}
 use Rattle.nas_elements.specs.Digits.{is_imsi}
@@ -8,7 +8,6 @@ use Rattle.emm_machine.specs.SubscriberView.{SubscriberView}
 use Rattle.emm_machine.specs.Ticks.{solo_aged}
 use Rattle.stranger_machine.specs.declared.table.Known.{Known}
 use Rattle.mme_owners.specs.Lent.{lent_now}
-use Rattle.mme_owners.specs.Owners.{OwnersView, RecordsView}
 use Rattle.snapshot_formats.specs.Formats.{saved_subscriber}
 use Rattle.snapshot_formats.specs.Subscribers.{typed_saved_state}
 use Rattle.mme_snapshot.specs.Images.{is_placed}
@@ -37,9 +36,8 @@ returns-in-Ok c =
     let x : SubscriberView = lent_now lent in
     let at : slice_get w.subscribers slot ≡ Some x =
     sym (c.in-Some.ensures ∙ ap (λ (ws : List SubscriberView). slice_get ws slot) c.parts.ensures.subscribers) in
-    let known : c.owners-inside.inside.strangers.strangers ≡ w.strangers =
-    ap (λ (r : RecordsView). r.strangers) c.owners-inside.view_is ∙ ap (λ (o : OwnersView). o.strangers) c.owners.view_is
-    ∙ c.parts.ensures.strangers in
+    let known : c.owners-inside.inside.0.0.strangers.strangers ≡ w.strangers =
+    search rules in
     let imsi : is_imsi x.setting.profile.imsi ≡ true =
     subst (λ (s : Setting). is_imsi s.profile.imsi ≡ true) c.setting.ensures c.know_imsi.ensures in
     let connection : x.solo.connection ≡ c.solo.result.now.connection =
