@@ -35,7 +35,7 @@ both false b h = absurd (cc h)
 pub counting : (solo : Solo) → ClockedRuns → IsClocked solo → IsCounting solo
 counting solo runs h = timed_in_range (countdowns solo) (running_timed solo (runs solo h))
 
-numbered_by : (o : Option Connection) → IfSome o (λ (j : Connection). j.enb_ue_id < enb_ue_ids) → (k : Connection) → o ≡ Some k
+pub numbered_by : (o : Option Connection) → IfSome o (λ (j : Connection). j.enb_ue_id < enb_ue_ids) → (k : Connection) → o ≡ Some k
     → k.enb_ue_id < enb_ue_ids
 numbered_by None numbered k is = absurd (cc is)
 numbered_by (Some j) numbered k is = subst (λ (i : Connection). i.enb_ue_id < enb_ue_ids) (same_Some j k is) numbered

@@ -1,4 +1,4 @@
-use Rattle.std.proofs.Common.{◌≡◌, ◌<◌, ◌++◌, ◌∷◌, [], List, length, true, sym, subst, ap, arith, ◌∙◌}
+use Rattle.std.proofs.Common.{◌≡◌, ◌<◌, ◌++◌, ◌∷◌, [], ℕ, Bool, List, length, true, sym, subst, ap, arith, ◌∙◌}
 use Rattle.std.specs.Prelude.{IfSome}
 use Rattle.identity_slots.specs.Ids.{enb_ue_ids, slots}
 use Rattle.mme_types.specs.declared.connection.Connection.{Connection}
@@ -6,6 +6,8 @@ use Rattle.emm_state.specs.declared.solo.Solo.{Solo}
 use Rattle.emm_state.specs.declared.draft.Draft.{Draft}
 use Rattle.emm_machine.specs.SubscriberView.{SubscriberView}
 use Rattle.stranger_machine.specs.declared.table.Known.{Known}
+use Rattle.mme_owners.specs.declared.owners.Owners.TheInside.{Inside}
+use Rattle.mme_owners.specs.Owners.{OwnersView}
 use Rattle.mme_owners.specs.Subscribers.{IsCounting}
 use Rattle.laws_apart.specs.Apart.{IdsApart}
 use Rattle.snapshot_formats.specs.Subscribers.{typed_saved_subscriber}
@@ -13,6 +15,15 @@ use Rattle.mme_snapshot.specs.Images.{is_placed}
 use Rattle.mme_snapshot.proofs.Fitting.{clocked, counting, joins, of_some}
 use Rattle.mme_snapshot.proofs.Pushed.{are_apart}
 use Rattle.mme_snapshot.proofs.adding.add_subscriber.Goals as goal
+use Rattle.mme_snapshot.proofs.adding.add_subscriber.Goals.{After-settle-arg-1}
+
+-- the connection of the state that is stored is its own
+placed_by : {ks js : List Known} {slot n : ℕ} {d e : Draft} {found : Bool} → ks ≡ js → slot ≡ n → d ≡ e
+    → found ≡ is_placed ks slot d.solo.connection → found ≡ true → is_placed js n e.solo.connection ≡ true
+placed_by {ks = ks} {js = js} {slot = slot} {n = n} {d = d} {e = e} strangers next same by held =
+    subst (λ (x : Draft). is_placed js n x.solo.connection ≡ true) same
+    (subst (λ (m : ℕ). is_placed js m d.solo.connection ≡ true) next
+    (subst (λ (hs : List Known). is_placed hs slot d.solo.connection ≡ true) strangers (sym by ∙ held)))
 
 apart_by : (c : goal.After-settle-arg-1) → IdsApart c.args.owners.now.strangers
     (c.args.owners.now.subscribers ++ record { setting = c.in-Ok-Some.prepared.0.setting; solo = c.in-Ok-Some.prepared.1.value.solo } ∷ [])
@@ -22,9 +33,9 @@ apart_by c =
     ap (λ (x : SubscriberView). x.setting.slot) (of_some _ _ _ c.in-Ok-Some.field-0-is c.in-Ok-Some.ensures.subscriber) ∙ c.requires.next in
     let numbered : IfSome c.in-Ok-Some.prepared.1.value.solo.connection (λ (k : Connection). k.enb_ue_id < enb_ue_ids) =
     subst (λ (d : Draft). IfSome d.solo.connection (λ (k : Connection). k.enb_ue_id < enb_ue_ids)) c.deref.ensures c.is_placed.ensures.numbered in
-    let strangers = ap (λ (o : _). o.strangers) c.owners.view_is in
+    let strangers = ap (λ (i : Inside). i.records.strangers) c.owners-inside.view_is ∙ ap (λ (v : OwnersView). v.strangers) c.owners.view_is in
     let placed : is_placed c.args.owners.now.strangers (length c.args.owners.now.subscribers) c.in-Ok-Some.prepared.1.value.solo.connection ≡ true =
-    cc (c.is_placed.ensures.placed, c.if-not-is_placed.false, c.deref.ensures, c.requires.next, strangers) in
+    placed_by strangers c.requires.next c.deref.ensures c.is_placed.ensures.placed c.if-not-is_placed.false in
     joins c.args.owners.now.strangers c.args.owners.now.subscribers
     (record { setting = c.in-Ok-Some.prepared.0.setting; solo = c.in-Ok-Some.prepared.1.value.solo }) room slot numbered placed c.requires.apart
 
@@ -39,4 +50,8 @@ settle-requires-clause-counting c =
         (clocked (typed_saved_subscriber c.args.saved.now) (of_some _ _ _ c.in-Ok-Some.field-0-is c.in-Ok-Some.ensures.fits) c.states_that_fit.ensures.clocked))
 
 pub returns-in-Ok-clause-apart : goal.returns-in-Ok-clause-apart
-returns-in-Ok-clause-apart c = ?
+returns-in-Ok-clause-apart c =
+    let before = apart_by (goal.at.returns-in-Ok-clause-apart c).After-settle-arg-1 in
+    let one : IdsApart c.args.owners.now.strangers c.settle.new.owners.subscribers =
+    subst (λ (ws : List SubscriberView). IdsApart c.args.owners.now.strangers ws) (sym c.in-Ok.ensures.subscribers) before in
+    subst (λ (ks : List Known). IdsApart ks c.settle.new.owners.subscribers) (sym c.settle.ensures.strangers) one
