@@ -1,9 +1,8 @@
--- Tests of lists, and what they say of each element: labels, and vectors.
-use Rattle.std.proofs.Common.{◌≡◌, ◌≤◌, ◌<◌, ℕ, zero, suc, List, [], ◌∷◌, length, map, get_or, Bool, true, false, refl, sym, ◌∙◌, ap, arith}
+-- Tests of lists, and what they say of each element of a label.
+use Rattle.std.proofs.Common.{◌≡◌, ◌≤◌, ◌<◌, ℕ, zero, suc, List, [], ◌∷◌, length, Bool, true, false, refl, arith}
 use Rattle.std.specs.Prelude.{◌&&◌, nat_le, slice_index_or}
 use Rattle.std.specs.List.{All, list_all}
 use Rattle.std.proofs.lemmas.Bool.Decides.{nat_tests}
-use Rattle.std.proofs.lemmas.List.Folds.{list_all-map, list_all_at}
 use Rattle.mme_types.specs.Network.{IsLabel, is_label_octet}
 use Rattle.mme_snapshot.specs.Images.{is_label}
 
@@ -45,8 +44,3 @@ no_label_by os false is unlabelled = is
 
 pub no_label : (os : List ℕ) → (IsLabel os → ⊥) → is_label os ≡ false
 no_label os unlabelled = no_label_by os (is_label os) refl unlabelled
-
--- one that fails
-pub one_fails : {X Y : Type 0} (p : Y → Bool) (f : X → Y) (xs : List X) (i : ℕ) (d : X) → i < length xs → p (f (get_or xs i d)) ≡ false
-    → list_all p (map f xs) ≡ false
-one_fails p f xs i d lt h = list_all-map p f xs ∙ list_all_at (λ x. p (f x)) xs i d lt h

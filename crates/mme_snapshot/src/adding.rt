@@ -17,7 +17,7 @@ ghost use Rattle.mme_snapshot.specs.Images.{fits_stranger, fits_subscriber, is_p
 ghost use Rattle.mme_snapshot.specs.Restored.{refusal_of};
 
 use crate::fault::RestoreFault;
-use crate::parts::{husk_of, is_placed, is_timed, stranger_of, vectors_of};
+use crate::parts::{is_placed, is_timed, stranger_of};
 use emm_machine::Subscriber;
 use emm_state::Draft;
 use identity_slots::{AssociationId, KeptVectors, Profile, Slot};
@@ -26,7 +26,7 @@ use laws_subscriber::clocks_are_kept;
 use mme_owners::{Owners, Stepped};
 use mme_types::SharedNetwork;
 use snapshot_formats::{SavedStranger, SavedSubscriber};
-use snapshot_states::{restored_state, states_that_fit};
+use snapshot_states::{husk_of, restored_state, states_that_fit, vectors_of};
 use std::alloc::{AllocError, Global};
 use stranger_machine::After;
 

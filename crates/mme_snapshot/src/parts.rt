@@ -1,30 +1,21 @@
 //! What the parts of a snapshot are to an MME.
 
-ghost use Rattle.std.specs.Prelude.{◌≡◌, ◌<◌, IfOk, IfSome, IfNone, length, map, option_map, false, true};
-ghost use Rattle.std.specs.List.{list_all};
+ghost use Rattle.std.specs.Prelude.{◌≡◌, ◌<◌, IfOk, IfSome, IfNone, option_map, false, true};
 ghost use Rattle.nas_elements.specs.Digits.{imsi_of};
 ghost use Rattle.identity_slots.specs.Ids.{enb_ue_ids};
 ghost use Rattle.stranger_machine.specs.Table.{stranger_at};
-ghost use Rattle.mme_core.specs.Remembered.{husk, kasme_in};
 ghost use Rattle.snapshot_formats.specs.Heads.{typed_saved_head, typed_saved_network, typed_saved_station, typed_saved_stranger_state, typed_saved_waiting};
-ghost use Rattle.snapshot_formats.specs.Subscribers.{typed_saved_subscriber, typed_saved_vector};
-ghost use Rattle.snapshot_states.specs.Fit.{fits_vector};
-ghost use Rattle.snapshot_states.specs.States.{named_vector};
+ghost use Rattle.snapshot_formats.specs.Subscribers.{typed_saved_subscriber};
 ghost use Rattle.mme_snapshot.specs.Images.{hops_of, is_held_by, is_label, is_placed, is_timed, named_head, named_kept, named_network, named_profile, named_station, named_stranger};
 
-use emm_state::Context;
-use identity_slots::{
-    AssociationId, COUNTERS, GivenKasme, Profile, Slot, StationNumber, Vector, Vectors, Xres, number_in,
-    station_in,
-};
+use identity_slots::{AssociationId, COUNTERS, Profile, Slot, StationNumber, number_in, station_in};
 use mme_core::Config;
 use mme_tables::Strangers;
 use mme_types::{Apn, Connection, NasOctets, Network, StationState};
 use nas_elements::{Imsi, timers};
-use per_bits::{Items, Whole};
+use per_bits::Whole;
 use snapshot_formats::{
-    SavedHead, SavedNetwork, SavedRadio, SavedStation, SavedStrangerState, SavedSubscriber,
-    SavedVector, SavedWaiting,
+    SavedHead, SavedNetwork, SavedRadio, SavedStation, SavedStrangerState, SavedSubscriber, SavedWaiting,
 };
 use std::alloc::{AllocError, Global};
 use stranger_machine::{KeptEntry, Stranger};
@@ -148,59 +139,6 @@ pub(crate) fn hops_of(saved: &SavedSubscriber) -> u64
             SavedRadio::Verbatim(_) => 0,
         },
         None => 0,
-    }
-}
-
-// A vector that is stored; none where its expected response can't be.
-fn vector_of(saved: &SavedVector) -> Option<Vector>
-    ensures vector { IfSome result (λ v. v ≡ named_vector (typed_saved_vector saved.now)) }
-    ensures fits { IfSome result (λ v. fits_vector (typed_saved_vector saved.now) ≡ true) }
-    ensures unfit { IfNone result (fits_vector (typed_saved_vector saved.now) ≡ false) }
-{
-    let xres = Xres::try_new(saved.xres.octets)?;
-    Some(Vector {
-        rand: saved.rand.get(),
-        autn: saved.autn.get(),
-        xres,
-        kasme: GivenKasme::new(*saved.kasme.octets),
-    })
-}
-
-/// The vectors that aren't spent; none where the expected response of one can't be.
-pub(crate) fn vectors_of(
-    alloc: Global,
-    saved: &Items<SavedVector, 0, 65535>,
-) -> Result<Option<Vectors>, AllocError>
-    ensures vectors { IfOk result (λ o. IfSome o (λ vs. vs ≡ map named_vector (map typed_saved_vector saved.now))) }
-    ensures fits { IfOk result (λ o. IfSome o (λ vs. list_all fits_vector (map typed_saved_vector saved.now) ≡ true)) }
-    ensures unfit { IfOk result (λ o. IfNone o (list_all fits_vector (map typed_saved_vector saved.now) ≡ false)) }
-{
-    let mut vectors = Vec::with_capacity(alloc, saved.len())?;
-    for saved in saved.as_slice() {
-        let Some(vector) = vector_of(saved) else {
-            return Ok(None);
-        };
-        vectors.push(vector)?;
-    }
-    Ok(Some(Vectors::new(vectors)))
-}
-
-/// What stands for each vector that is spent, beside a context.
-pub(crate) fn husk_of(context: &Option<Context>) -> Vector
-    ensures { result ≡ husk (kasme_in context.now) }
-{
-    let kasme = match context {
-        Some(context) => *context.kasme.octets(),
-        None => [0; 32],
-    };
-    let Some(xres) = Xres::try_new(&[0; 16]) else {
-        unreachable!();
-    };
-    Vector {
-        rand: [0; 16],
-        autn: [0; 16],
-        xres,
-        kasme: GivenKasme::new(kasme),
     }
 }
 

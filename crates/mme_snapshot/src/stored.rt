@@ -37,12 +37,9 @@ use snapshot_formats::{
     GREATEST_LONG, LentKey, SavedHead, SavedNetwork, SavedState, SavedStation, SavedStranger,
     SavedStrangerState, SavedWaiting,
 };
-use snapshot_states::{Clocks, saved_state, vectors_spent};
+use snapshot_states::{Clocks, MOST_VECTORS, saved_state, stored_spent, stored_unspent};
 use std::alloc::{AllocError, Global};
 use stranger_machine::{KeptEntry, LentStranger, Stranger};
-
-/// The most vectors of a subscriber that are stored.
-const MOST_VECTORS: usize = 65535;
 
 /// What stands first; none where a clock is past those that are stored.
 pub(crate) fn stored_head<'a>(config: &'a Config, clock: u64) -> Option<SavedHead<'a>>
@@ -173,35 +170,6 @@ fn write_vector(alloc: Global, vector: &Vector, writer: &mut BitWriter) -> Resul
         octets: vector.kasme.octets(),
     }
     .write(alloc, writer)
-}
-
-// How many vectors of a subscriber are spent; none where there are more than were given, or than are stored.
-fn stored_spent(subscriber: &Subscriber) -> Option<usize>
-    ensures spent { IfSome result (λ n. n ≡ vectors_spent subscriber.now.solo) }
-    ensures there { IfSome result (λ n. n ≤ length subscriber.now.setting.vectors) }
-    ensures few { IfSome result (λ n. n ≤ 2 ^ 62) }
-{
-    let spent = vectors_spent(subscriber.solo());
-    if subscriber.spent() != spent || spent as u64 > GREATEST_LONG {
-        return None;
-    }
-    Some(spent)
-}
-
-// How many vectors a subscriber has after those that are spent; none where there are more than are stored.
-fn stored_unspent(subscriber: &Subscriber, spent: usize) -> Option<usize>
-    requires asked { vectors_spent subscriber.now.solo ≤ spent }
-    requires there { spent ≤ length subscriber.now.setting.vectors }
-    requires few { spent ≤ 2 ^ 62 }
-    ensures all { IfSome result (λ n. spent + n ≡ length subscriber.now.setting.vectors) }
-    ensures few { IfSome result (λ n. n ≤ 65535) }
-{
-    for unspent in 0..=MOST_VECTORS {
-        if subscriber.vector(spent + unspent).is_none() {
-            return Some(unspent);
-        }
-    }
-    None
 }
 
 /// What is stored of a subscriber, its secrets and what is sent again lent.

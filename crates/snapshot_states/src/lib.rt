@@ -7,7 +7,9 @@ mod numbers;
 mod restoring;
 mod saving;
 mod taking;
+mod vectors;
 
 pub use laws::states_that_fit;
-pub use saving::{Clocks, saved_state, vectors_spent};
+pub use saving::{Clocks, saved_state};
 pub use taking::restored_state;
+pub use vectors::{MOST_VECTORS, husk_of, stored_spent, stored_unspent, vectors_of};

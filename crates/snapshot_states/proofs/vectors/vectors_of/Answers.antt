@@ -3,8 +3,8 @@ use Rattle.std.specs.List.{list_all}
 use Rattle.snapshot_formats.specs.Subscribers.{typed_saved_vector}
 use Rattle.snapshot_formats.specs.declared.subscriber.SavedVector.{SavedVector}
 use Rattle.snapshot_states.specs.Fit.{fits_vector}
-use Rattle.mme_snapshot.proofs.Labels.{one_fails}
-use Rattle.mme_snapshot.proofs.parts.vectors_of.Goals as goal
+use Rattle.snapshot_states.proofs.Failing.{one_fails}
+use Rattle.snapshot_states.proofs.vectors.vectors_of.Goals as goal
 
 pub returns-in_default-clause-unfit : goal.returns-in_default-clause-unfit
 returns-in_default-clause-unfit c =
