@@ -1,5 +1,5 @@
 -- Strangers, counted one after another by rising id.
-use Rattle.std.proofs.Common.{◌≡◌, ◌≤◌, ◌<◌, ◌+◌, ◌-◌, ℕ, zero, suc, List, [], ◌∷◌, ◌++◌, length, Option, Some, None, refl, sym, ◌∙◌, ap, subst, arith, append_assoc}
+use Rattle.std.proofs.Common.{◌≡◌, ◌≤◌, ◌+◌, ℕ, List, [], ◌∷◌, ◌++◌, length, Option, Some, None, refl, sym, ◌∙◌, ap, subst, arith, append_assoc}
 use Rattle.std.specs.Prelude.{option_map}
 use Rattle.std.proofs.lemmas.List.{append-nil, length_push}
 use Rattle.std.proofs.lemmas.Option.{same_Some}
@@ -21,7 +21,8 @@ pub record Counted (ks : List Known) (least count : ℕ) : Type 0 where
   pub few : count ≤ least
 
 pub none_counted : (ks : List Known) → Counted ks 0 0
-none_counted ks = record { front = []; back = ks; parts = refl; below = tt; over = all_from_zero ks; many = refl; few = omega arith }
+none_counted ks =
+    record { front = []; back = ks; parts = refl; below = tt; over = all_from_zero ks; many = refl; few = omega arith }
 
 rising_back : (fs bs : List Known) → Rising known_id (fs ++ bs) → Rising known_id bs
 rising_back [] bs h = h

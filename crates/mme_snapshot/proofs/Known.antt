@@ -1,5 +1,5 @@
 -- A stranger more, whose id is above all others.
-use Rattle.std.proofs.Common.{◌≡◌, ℕ, ◌+◌, ◌-◌, ◌*◌, ◌/◌, ◌%◌, ◌<◌, ◌≤◌, ◌^◌, List, [], ◌∷◌, ◌++◌, Bool, true, false, cond, Option, Some, None, inl, inr, refl, sym, ◌∙◌, ap, subst, arith}
+use Rattle.std.proofs.Common.{◌≡◌, ℕ, ◌<◌, ◌≤◌, List, [], ◌∷◌, ◌++◌, Bool, true, false, cond, Option, Some, None, inl, inr, refl, ap, subst, arith}
 use Rattle.std.specs.Prelude.{◌&&◌, ◌==◌, nat_lt, nat_le, not, is_none, option_map, slice_get}
 use Rattle.std.proofs.lemmas.Bool.Decides.{nat_tests}
 use Rattle.sorted_list.specs.Ordered.{AllOver, Every, Rising, at, put}
@@ -8,15 +8,14 @@ use Rattle.per_bits.specs.Formats.{Value}
 use Rattle.identity_slots.specs.Ids.{enb_ue_ids, is_of_slot, number_in, station_in, stranger_id, strangers}
 use Rattle.emm_machine.specs.SubscriberView.{SubscriberView}
 use Rattle.stranger_machine.specs.declared.state.Stranger.{Stranger}
-use Rattle.stranger_machine.specs.declared.state.Stranger.TheVariants.{Waiting, Held}
 use Rattle.stranger_machine.specs.declared.table.Known.{Known}
-use Rattle.stranger_machine.specs.Machine.{identity_repeats, identity_ticks}
+use Rattle.stranger_machine.specs.Machine.{identity_ticks}
 use Rattle.stranger_machine.specs.Table.{known_id, stranger_at}
 use Rattle.mme_tables.specs.Waiting.{wait_of}
 use Rattle.mme_owners.specs.Owners.{IsStart}
 use Rattle.mme_owners.specs.Placed.{AreApart}
 use Rattle.laws_subscriber.specs.Strangers.{IsTimed}
-use Rattle.laws_apart.specs.Alone.{IsOfStranger, WaitsMade}
+use Rattle.laws_apart.specs.Alone.{WaitsMade}
 use Rattle.laws_apart.specs.Apart.{IdsApart}
 use Rattle.mme_core.specs.Kept.{IsKept, IsKnownTimed}
 use Rattle.mme_core.specs.World.{World}
@@ -74,7 +73,8 @@ last_by P id k false is none one = none
 found_last : (P : ℕ → Option Stranger → Type 0) (id : ℕ) (k : Known) (ks : List Known) → P k.id (Some k.stranger)
     → P id (stranger_at id ks) → P id (stranger_at id (ks ++ k ∷ []))
 found_last P id k [] one h = last_by P id k (k.id == id) refl h one
-found_last P id k (y ∷ ys) one h = found_by P id y (at known_id id ys) (at known_id id (ys ++ k ∷ [])) (y.id == id) (found_last P id k ys one) h
+found_last P id k (y ∷ ys) one h =
+    found_by P id y (at known_id id ys) (at known_id id (ys ++ k ∷ [])) (y.id == id) (found_last P id k ys one) h
 
 -- ---- one that fits
 

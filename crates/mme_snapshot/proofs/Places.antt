@@ -1,5 +1,5 @@
 -- What stands at a place of a list.
-use Rattle.std.proofs.Common.{◌≡◌, ◌≤◌, ◌<◌, ℕ, zero, suc, ◌+◌, List, [], ◌∷◌, length, drop, Bool, true, false, Option, Some, None, sym, ◌∙◌, ap, arith}
+use Rattle.std.proofs.Common.{◌≡◌, ◌≤◌, ◌<◌, ℕ, zero, suc, ◌+◌, List, [], ◌∷◌, length, drop, true, false, Option, Some, None, sym, ◌∙◌, ap, arith}
 use Rattle.std.specs.Prelude.{is_none, option_map, slice_get}
 use Rattle.std.proofs.lemmas.List.{drop_more}
 use Rattle.std.proofs.lemmas.Option.{get_or_from_slice_get, slice_get_within}
@@ -21,7 +21,7 @@ pub past_if : {A B : Type 0} (f : A → B) (o : Option A) (xs : List B) (i : ℕ
 past_if f None xs i none there = past xs i there
 past_if f (Some x) xs i none there = absurd (cc none)
 
-pub within_if : {A B : Type 0} (f : A → B) (o : Option A) (xs : List B) (i : ℕ) → is_none o ≡ false → option_map f o ≡ slice_get xs i
-    → i < length xs
+pub within_if : {A B : Type 0} (f : A → B) (o : Option A) (xs : List B) (i : ℕ) → is_none o ≡ false
+    → option_map f o ≡ slice_get xs i → i < length xs
 within_if f None xs i some there = absurd (cc some)
 within_if f (Some x) xs i some there = slice_get_within xs i (f x) (sym there)

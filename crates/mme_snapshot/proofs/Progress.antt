@@ -1,5 +1,5 @@
 -- The parts of a snapshot, saved one after another.
-use Rattle.std.proofs.Common.{◌≡◌, ◌≤◌, ◌<◌, ◌+◌, ◌-◌, ℕ, zero, suc, List, [], ◌∷◌, ◌++◌, length, Bool, true, false, cond, Option, Some, None, Ok, refl, sym, ◌∙◌, ap, subst, arith, append_assoc}
+use Rattle.std.proofs.Common.{◌≡◌, ◌≤◌, ◌<◌, ◌+◌, ◌-◌, ℕ, zero, suc, List, [], ◌∷◌, ◌++◌, length, Bool, true, false, cond, Option, Some, None, refl, sym, ◌∙◌, ap, subst, arith, append_assoc}
 use Rattle.std.specs.Prelude.{nat_lt, not, slice_get, if◌then◌else◌}
 use Rattle.std.specs.List.{concat}
 use Rattle.std.proofs.lemmas.Bool.Decides.{nat_tests}
@@ -12,7 +12,7 @@ use Rattle.stranger_machine.specs.Table.{known_id}
 use Rattle.mme_core.specs.World.{World}
 use Rattle.mme_snapshot.specs.declared.part.Part.{Part}
 use Rattle.mme_snapshot.specs.declared.part.Part.TheVariants as part
-use Rattle.mme_snapshot.specs.Saved.{AreParts, IsNextStranger, IsSavedPart, IsSubscriberAt, subscriber_from}
+use Rattle.mme_snapshot.specs.Saved.{AreParts, IsNextStranger, IsSavedPart, IsSubscriberAt}
 
 -- ---- the octets so far
 
@@ -66,7 +66,10 @@ fewer_one a b k le = fewer_by a b k le (nat_lt k a) (nat_lt k b) refl refl
     fewer_by : (a b k : ℕ) → a ≤ b → (p q : Bool) → nat_lt k a ≡ p → nat_lt k b ≡ q → one_if (not q) ≤ one_if (not p)
     fewer_by a b k le p true h i = omega arith
     fewer_by a b k le false false h i = omega arith
-    fewer_by a b k le true false h i = absurd (let lt : k < b = grind (arith, nat_tests) in let no : nat_lt k b ≡ true = grind (arith, nat_tests) in cc (no, i))
+    fewer_by a b k le true false h i =
+        let lt : k < b = grind (arith, nat_tests) in
+        let no : nat_lt k b ≡ true = grind (arith, nat_tests) in
+        absurd (cc (no, i))
 
 fewer : (a b : ℕ) (ks : List Known) → a ≤ b → not_below b ks ≤ not_below a ks
 fewer a b [] le = omega arith

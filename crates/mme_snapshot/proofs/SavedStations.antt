@@ -16,5 +16,12 @@ pub stations_push : (ss : List StationState) (s : StationState) (os more : List 
     → AreStations (ss ++ s ∷ []) (os ++ more)
 stations_push [] s os more none one =
     (one.0, more, [], ap (λ (l : List ℕ). l ++ more) none ∙ sym (append-nil more), one.1, one.2, refl)
-stations_push (x ∷ ss) s os more m one =
-    (m.0, m.1, m.2 ++ more, ap (λ (l : List ℕ). l ++ more) m.3 ∙ append_assoc m.1 m.2 more, m.4, m.5, stations_push ss s m.2 more m.6 one)
+stations_push (x ∷ ss) s os more m one = (
+  m.0,
+  m.1,
+  m.2 ++ more,
+  ap (λ (l : List ℕ). l ++ more) m.3 ∙ append_assoc m.1 m.2 more,
+  m.4,
+  m.5,
+  stations_push ss s m.2 more m.6 one,
+)

@@ -1,5 +1,5 @@
 -- A subscriber's part, and what it says of the subscriber.
-use Rattle.std.proofs.Common.{◌≡◌, ℕ, zero, suc, ◌+◌, ◌-◌, ◌≤◌, List, [], ◌∷◌, ◌++◌, length, map, drop, replicate, Bool, true, false, Option, Some, None, refl, sym, ◌∙◌, ap, subst, arith}
+use Rattle.std.proofs.Common.{◌≡◌, ℕ, zero, suc, ◌+◌, ◌≤◌, List, [], ◌∷◌, ◌++◌, length, map, drop, replicate, Bool, true, Option, Some, refl, sym, ◌∙◌, ap, subst, arith}
 use Rattle.std.specs.Prelude.{nat_le, slice_get}
 use Rattle.std.specs.List.{list_all}
 use Rattle.std.proofs.lemmas.Bool.Decides.{nat_tests}
@@ -13,7 +13,6 @@ use Rattle.nas_elements.specs.Digits.{imsi_octets, is_imsi}
 use Rattle.nas_elements.specs.DigitLaws.{imsi_again}
 use Rattle.identity_slots.specs.declared.profile.Vector.{Vector}
 use Rattle.mme_types.specs.declared.network.Network.{Network}
-use Rattle.emm_state.specs.declared.setting.Setting.{Setting}
 use Rattle.emm_state.specs.declared.solo.Solo.{Solo}
 use Rattle.emm_state.specs.Taking.{vectors_spent}
 use Rattle.emm_machine.specs.SubscriberView.{SubscriberView}

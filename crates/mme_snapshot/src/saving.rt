@@ -281,7 +281,10 @@ fn save_each(alloc: Global, mme: &Mme, octets: &mut SavedOctets) -> Result<(), S
     let _ = mme.parts().provision.len();
     let mut next = Some(Part::First);
     while let Some(part) = next {
-        let SavedPart { octets: saved, next: after } = save_part(alloc, mme, part)?;
+        let SavedPart {
+            octets: saved,
+            next: after,
+        } = save_part(alloc, mme, part)?;
         add_part(alloc, octets, saved)?;
         next = after;
     }

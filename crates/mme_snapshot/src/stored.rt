@@ -223,11 +223,7 @@ pub(crate) fn stored_subscriber<'a>(
 }
 
 // Writes each vector of a subscriber that isn't spent.
-fn write_each_vector(
-    alloc: Global,
-    stored: &Stored,
-    writer: &mut BitWriter,
-) -> Result<(), PerError>
+fn write_each_vector(alloc: Global, stored: &Stored, writer: &mut BitWriter) -> Result<(), PerError>
     requires asked { vectors_spent stored.now.subscriber.now.solo ≤ stored.now.spent }
     requires all { stored.now.spent + stored.now.unspent ≡ length stored.now.subscriber.now.setting.vectors }
     requires few { stored.now.spent + stored.now.unspent ≤ 2 ^ 63 }

@@ -1,6 +1,4 @@
-use Rattle.std.proofs.Common.{◌≡◌, ◌<◌, ℕ, List, Ok, None, Some, Option, sym, subst, ap, ◌∙◌}
-use Rattle.identity_slots.specs.declared.profile.Profile.{Profile}
-use Rattle.mme_core.specs.Remembered.{remembered}
+use Rattle.std.proofs.Common.{◌<◌, Option, sym, subst, ap, ◌∙◌}
 use Rattle.mme_snapshot.specs.declared.part.Part.{Part}
 use Rattle.mme_snapshot.specs.Saved.{AreProvisioned}
 use Rattle.mme_snapshot.specs.Restored.{restored}
@@ -26,7 +24,8 @@ loop-next-smaller c =
 pub returns : goal.returns
 returns c =
     let w = c.args.mme.now in
-    let done = all_saved w c.loop-next.octets (subst (λ (o : Option Part). SavedSoFar w c.loop-next.octets o) c.in_default.is c.loop-next.invariant) in
+    let so_far = subst (λ (o : Option Part). SavedSoFar w c.loop-next.octets o) c.in_default.is c.loop-next.invariant in
+    let done = all_saved w c.loop-next.octets so_far in
     let own : AreProvisioned c.parts.result.provision.now.profiles =
     record { imsis = c.len.ensures.imsis; addresses = c.len.ensures.addresses; few = c.len.ensures.few } in
     ap restored done.1

@@ -1,4 +1,4 @@
-use Rattle.std.proofs.Common.{◌≡◌, ℕ, ap, ◌∙◌}
+use Rattle.std.proofs.Common.{ℕ, ap, ◌∙◌}
 use Rattle.std.proofs.lemmas.Result.{IfOk-weaker}
 use Rattle.mme_core.specs.declared.config.Config.{Config}
 use Rattle.snapshot_formats.specs.Heads.{typed_saved_head}
@@ -13,7 +13,7 @@ returns-in-Some c =
     IfOk-weaker c.spelled.result _ _ (λ v h. (
       typed_saved_head c.in-Some.head,
       c.in-Some.ensures.head ∙ ap (λ (k : Config). head_from k c.parts-parts.result.clock) c.parts-parts.ensures.config
-      ∙ ap (head_from c.args.mme.now.sight.config) c.parts-parts.ensures.clock,
+          ∙ ap (head_from c.args.mme.now.sight.config) c.parts-parts.ensures.clock,
       c.in-Some.ensures.label,
       h,
     )) c.spelled.ensures

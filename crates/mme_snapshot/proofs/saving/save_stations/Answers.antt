@@ -1,4 +1,4 @@
-use Rattle.std.proofs.Common.{◌≡◌, ◌∙◌, ◌+◌, ◌++◌, ◌∷◌, [], ℕ, List, length, take, sym, ap, subst, arith}
+use Rattle.std.proofs.Common.{◌≡◌, ◌∙◌, ◌+◌, ◌++◌, ◌∷◌, [], ℕ, List, take, sym, ap, subst, arith}
 use Rattle.std.proofs.lemmas.List.{take_all, take_more}
 use Rattle.mme_types.specs.declared.stations.StationState.{StationState}
 use Rattle.mme_snapshot.specs.Saved.{AreStations}
@@ -17,7 +17,7 @@ loop-state-preserved c =
     c.in_ok-append.ensures ∙ ap (λ (os : List ℕ). so_far ++ os) c.as_slice.ensures.value in
     subst (λ (ss : List StationState). AreStations ss c.append.new.octets.items) (sym more)
     (subst (λ (os : List ℕ). AreStations (take i all ++ s ∷ []) os) (sym octets)
-        (stations_push (take i all) s so_far c.in_ok-part.part.items c.loop-state.invariant c.in_ok-part.ensures))
+    (stations_push (take i all) s so_far c.in_ok-part.part.items c.loop-state.invariant c.in_ok-part.ensures))
 
 pub returns : goal.returns
 returns c =

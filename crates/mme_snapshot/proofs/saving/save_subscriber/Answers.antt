@@ -52,7 +52,7 @@ returns-in-Ok c =
     let setting = of_some _ _ stored is told.subscriber in
     let spelled =
     subst (λ (s : Setting). SpellsWhole saved_subscriber (stored_subscriber s stored.spent (typed_saved_state stored.state))
-        c.in-Ok.octets.items) setting c.in-Ok.ensures in (
+    c.in-Ok.octets.items) setting c.in-Ok.ensures in (
       x,
       at,
       subscriber_saved w slot stored.spent stored.unspent x (typed_saved_state stored.state) c.in-Ok.octets.items

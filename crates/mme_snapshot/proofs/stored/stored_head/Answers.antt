@@ -1,4 +1,4 @@
-use Rattle.std.proofs.Common.{◌≡◌, ◌∙◌, List, refl, sym, subst}
+use Rattle.std.proofs.Common.{◌∙◌, refl, sym, subst}
 use Rattle.mme_types.specs.Network.{IsLabel}
 use Rattle.mme_snapshot.proofs.Labels.{label_if}
 use Rattle.mme_snapshot.proofs.stored.stored_head.Goals as goal
