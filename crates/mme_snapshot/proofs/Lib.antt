@@ -5,6 +5,10 @@ pub mod Limits
 pub mod Settling
 pub mod Fitting
 pub mod Labels
+pub mod Places
+pub mod VectorsWritten
+pub mod SavedStrangers
+pub mod SavedSubscribers
 pub mod Strangers
 pub mod Stations
 pub mod Moved
@@ -16,7 +20,3 @@ pub mod Subscribers
 pub mod Counting
 pub mod Progress
 pub mod SavedStations
-pub mod Places
-pub mod VectorsWritten
-pub mod SavedStrangers
-pub mod SavedSubscribers
