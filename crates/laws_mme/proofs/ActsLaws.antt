@@ -1,5 +1,5 @@
 -- What is fresh, who is let in and what ends over every list of acts of an MME, of each slot.
-use Rattle.std.proofs.Common.{◌≡◌, ℕ, true, List, [], ◌∷◌, ◌++◌, All, Option, Some, None, refl, sym, ◌∙◌, subst}
+use Rattle.std.proofs.Common.{◌≡◌, ℕ, true, List, [], ◌∷◌, ◌++◌, All, Option, Some, None, refl, sym, ◌∙◌, ap, subst}
 use Rattle.std.specs.Prelude.{slice_get}
 use Rattle.std.specs.List.{AllZip}
 use Rattle.std.proofs.lemmas.List.Elements.{All-nil}
@@ -17,13 +17,20 @@ use Rattle.laws_subscriber.specs.Silent.{SilentEnds, SilentIsForgotten}
 use Rattle.laws_subscriber.specs.Sound.{IsSound, StaysSound}
 use Rattle.laws_subscriber.specs.Unproved.{UnprovedLeaves}
 use Rattle.mme_core.specs.Kept.{BeginsKept, IsKept}
+use Rattle.mme_core.specs.Laws.{GoesAlone, RepliesSo}
+use Rattle.mme_core.specs.Projection.{Told, is_slot, told_in}
 use Rattle.mme_core.specs.Provisioning.{fresh_subscriber}
-use Rattle.mme_core.specs.World.{World, fresh_world}
-use Rattle.laws_mme.specs.ActsAlone.{OwnAct, OwnItem, OwnProfile, OwnVector, SlotGoesAloneOverActs, own_acts, own_run_over}
-use Rattle.laws_mme.specs.EndingActs.{ActsEnd}
+use Rattle.mme_core.specs.World.{World, fresh_world, strangers_in, subscriber_step}
+use Rattle.laws_mme.specs.Acts.{Act, ActsKeep, act_after, act_reply, acts_run}
+use Rattle.laws_mme.specs.ActsAlone.{OwnAct, OwnItem, OwnProfile, OwnVector, SlotGoesAloneOverActs, own_act, own_acts, own_after, own_run_over, own_sent}
+use Rattle.laws_mme.specs.EndingActs.{ActsEnd, AllEndsAfterActs}
 use Rattle.laws_mme.specs.GuardedActs.{ActsAreGuarded, EverybodyHasProved, IsAway, IsGuardedOver, forms_at, vectors_in}
-use Rattle.laws_mme.specs.KeysOverActs.{ActsHandOutFreshKeys}
-use Rattle.laws_mme.specs.OverActs.{ActsAreFresh, answers_at, over_acts, sent_marks_at}
+use Rattle.laws_mme.specs.EndingWorlds.{AllEndsInTime}
+use Rattle.laws_mme.specs.Handed.{AreFresh, Handing}
+use Rattle.laws_mme.specs.KeysOfMme.{connection_of, handed_told}
+use Rattle.laws_mme.specs.KeysOverActs.{ActsHandOutFreshKeys, handed_over}
+use Rattle.laws_mme.specs.OverActs.{ActsAreFresh, answers_at, at_act, over_acts, sent_marks_at}
+use Rattle.laws_mme.proofs.ActsAlone.{own_on}
 use Rattle.laws_mme.proofs.Challenges.{vectors_over_runs}
 use Rattle.laws_mme.proofs.EndsOver.{ending_over}
 use Rattle.laws_mme.proofs.FreshOver.{accepted_kind, fresh_over, made_kind, sent_kind}
@@ -31,11 +38,12 @@ use Rattle.laws_mme.proofs.GuardedOver.{in_order_over, marked_over}
 use Rattle.laws_mme.proofs.Guards.{IsInUseAt, in_use_at}
 use Rattle.laws_mme.proofs.KeyRows.{ShortIsFresh, WholeIsFresh}
 use Rattle.laws_mme.proofs.KeyRuns.{WhatIsEncoded}
-use Rattle.laws_mme.proofs.KeysOfMme.{fresh_at}
-use Rattle.laws_mme.proofs.KeysOver.{keys_fresh_over}
+use Rattle.laws_mme.proofs.KeysOfMme.{fresh_at, told_same}
+use Rattle.laws_mme.proofs.KeysOver.{handed_at, keys_fresh_over}
 use Rattle.laws_mme.proofs.Late.{goes_on_or_ran_out}
 use Rattle.laws_mme.proofs.Looks.{vectors_may_come_late}
 use Rattle.laws_mme.proofs.ProvedOver.{keys_now, proved_now}
+use Rattle.laws_mme.proofs.SlotAtAct.{slot_act, slot_told_act}
 use Rattle.laws_mme.proofs.Stretches.{run, runs, used_now}
 
 abbrev pub BegunInUse : Type 0
@@ -127,8 +135,47 @@ module _ (stays : StaysInUse) (sounds : StaysSound) (clocks : StaysClocked) (beg
 
 -- ---- radio keys
 
-pub acts_hand_out_fresh_keys : WholeIsFresh → ShortIsFresh → WhatIsEncoded → ActsHandOutFreshKeys
-acts_hand_out_fresh_keys whole short what config p acts slot =
+-- at an act they are those of the slot's own act
+handed_once : (n : Network) (slot : ℕ) (x : Option SubscriberView) (own : OwnAct)
+    → handed_told (connection_of (own_after n slot x own)) (own_sent x own) ≡ at_act handed_at x own
+handed_once n slot None (OwnItem item) = refl
+handed_once n slot None (OwnVector v) = refl
+handed_once n slot None (OwnProfile p) = refl
+handed_once n slot (Some x) (OwnItem item) = let d = subscriber_step x item in told_same d.solo.connection d.sent
+handed_once n slot (Some x) (OwnVector v) = refl
+handed_once n slot (Some x) (OwnProfile p) = refl
+
+-- what a slot is told is what its machine sends
+handed_alone : RepliesSo → GoesAlone → ActsKeep → (w : World) (acts : List Act) (slot : ℕ) → IsKept w
+    → handed_over slot w acts
+    ≡ over_acts handed_at w.sight.config.network slot (slice_get w.subscribers slot) (own_acts slot w acts)
+handed_alone so goes keeps w [] slot h = refl
+handed_alone so goes keeps w (act ∷ acts) slot h =
+    let u : World = act_after w act in
+    let n = w.sight.config.network in
+    let x = slice_get w.subscribers slot in
+    let own = own_act slot w.sight (strangers_in w) act in
+    ap (λ (y : Option SubscriberView). handed_told (connection_of y) (told_in (is_slot slot) (act_reply w act)) ++ handed_over slot u acts)
+    (slot_act goes w act slot h)
+    ∙ ap (λ (sent : List Told). handed_told (connection_of (own_after n slot x own)) sent ++ handed_over slot u acts)
+    (slot_told_act so w act slot h.rising)
+    ∙ ap (λ (hs : List Handing). hs ++ handed_over slot u acts) (handed_once n slot x own)
+    ∙ ap (λ (hs : List Handing). at_act handed_at x own ++ hs)
+    (handed_alone so goes keeps u acts slot (keeps w (act ∷ []) h)
+    ∙ own_on (λ m y mine. over_acts handed_at m slot y mine) goes w act acts slot h)
+
+pub acts_hand_out_fresh_keys : WholeIsFresh → ShortIsFresh → WhatIsEncoded → RepliesSo → GoesAlone → ActsKeep → SlotGoesAloneOverActs
+    → BeginsKept → ActsHandOutFreshKeys
+acts_hand_out_fresh_keys whole short what so goes keeps leaves begins config p acts slot =
     let w : World = fresh_world config p in
-    keys_fresh_over whole short what config.network slot (slice_get w.subscribers slot) (own_acts slot w acts)
-    (λ y there. fresh_at config.network 0 p.profiles p.vectors slot y there)
+    let kept : IsKept w = begins config p in
+    subst (λ (x : Option SubscriberView). AreFresh (vectors_in x) (handed_over slot w acts)) (sym (leaves w acts slot kept))
+    (subst (AreFresh (vectors_in (own_run_over config.network slot (slice_get w.subscribers slot) (own_acts slot w acts))))
+    (sym (handed_alone so goes keeps w acts slot kept))
+    (keys_fresh_over whole short what config.network slot (slice_get w.subscribers slot) (own_acts slot w acts)
+    (λ y there. fresh_at config.network 0 p.profiles p.vectors slot y there)))
+
+-- ---- what ends of everybody
+
+pub all_ends_after : ActsKeep → AllEndsInTime → AllEndsAfterActs
+all_ends_after keeps ends w acts n h has long = ends (acts_run w acts) n (keeps w acts h) has long

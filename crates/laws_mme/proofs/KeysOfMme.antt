@@ -25,7 +25,7 @@ use Rattle.laws_mme.specs.KeysOfMme.{MmeKeysAreFresh, connection_of, handed_for,
 first_same : {A : Type 0} {x y : A} → ◌≡◌ {A = List A} (x ∷ []) (y ∷ []) → x ≡ y
 first_same is = cc
 
-told_same : (c : Option Connection) (sent : List Answer) → handed_told c (map answer_told sent) ≡ handed_of c sent
+pub told_same : (c : Option Connection) (sent : List Answer) → handed_told c (map answer_told sent) ≡ handed_of c sent
 told_same c [] = refl
 told_same c (a ∷ rest) = ap (λ (zs : List Handing). handed_in c a.station (decoded a.octets) ++ zs) (told_same c rest)
 

@@ -20,11 +20,10 @@ use Rattle.emm_machine.specs.Words.{fresh_solo}
 use Rattle.laws_subscriber.specs.Choices.{either}
 use Rattle.mme_core.specs.Provisioning.{fresh_subscriber}
 use Rattle.mme_core.specs.World.{subscriber_after, subscriber_step}
-use Rattle.laws_mme.specs.ActsAlone.{OwnAct, OwnItem, OwnProfile, OwnVector}
+use Rattle.laws_mme.specs.ActsAlone.{OwnAct, OwnItem, OwnProfile, OwnVector, own_run_over}
 use Rattle.laws_mme.specs.GuardedActs.{vectors_in}
 use Rattle.laws_mme.specs.Handed.{AreFresh, Handing, IsBefore, IsHandedAs, RadioKey, handed_by}
 use Rattle.laws_mme.specs.KeysOfMessage.{IsKept, IsOfAccepted, kenb_in}
-use Rattle.laws_mme.specs.KeysOverActs.{KeysAreFreshOver, handed_at}
 use Rattle.laws_mme.specs.OverActs.{over_acts}
 use Rattle.laws_mme.proofs.GuardedOver.{early, longer_of}
 use Rattle.laws_mme.proofs.Holding.{HeldIn, IsHeld, IsOfVector, Part, part_of}
@@ -34,6 +33,14 @@ use Rattle.laws_mme.proofs.KeyRows.{ShortIsFresh, WholeIsFresh, done_step}
 use Rattle.laws_mme.proofs.KeyRuns.{AreInRow, WhatIsEncoded, given_row, none_of}
 use Rattle.laws_mme.proofs.Longer.{IsLonger, longer}
 use Rattle.laws_mme.proofs.Stretches.{run, runs, taking}
+
+-- the messages with a radio key at a step
+abbrev pub handed_at : Solo → Draft → List Handing
+handed_at solo d = handed_by d
+
+-- they have keys of the slot's vectors, those that it has in the end, of which each is before all later ones
+abbrev pub KeysAreFreshOver : Network → ℕ → Option SubscriberView → List OwnAct → Type 0
+KeysAreFreshOver n slot x acts = AreFresh (vectors_in (own_run_over n slot x acts)) (over_acts handed_at n slot x acts)
 
 -- ---- with further vectors
 

@@ -1,13 +1,14 @@
 //! What is fresh, who is let in and what ends of each slot over a list of acts, whoever is added and whatever is given meanwhile:
 //! the laws of `runs`, over the acts of a slot. Each law is the contract of a function that does nothing.
 
-ghost use Rattle.laws_mme.specs.EndingActs.{ActsEnd};
+ghost use Rattle.laws_mme.specs.EndingActs.{ActsEnd, AllEndsAfterActs};
 ghost use Rattle.laws_mme.specs.GuardedActs.{ActsAreGuarded, EverybodyHasProved};
 ghost use Rattle.laws_mme.specs.KeysOverActs.{ActsHandOutFreshKeys};
 ghost use Rattle.laws_mme.specs.Late.{GoesOnOrRanOut};
 ghost use Rattle.laws_mme.specs.OverActs.{ActsAreFresh};
 
-use crate::giving::slots_act_alone;
+use crate::ends::everything_ends;
+use crate::giving::{slots_act_alone, what_is_given_stays_kept};
 use emm_machine::{
     accepted_counts_are_fresh, in_use_is_kept, sent_counts_are_fresh, vector_makes_one_context,
 };
@@ -15,7 +16,7 @@ use laws_subscriber::{
     clocks_are_kept, keys_go_to_the_proved, protected_forms_are_marked, registered_by_proof,
     silent_phones_end, soundness_is_kept, unproved_leaves,
 };
-use mme_core::worlds_are_kept;
+use mme_core::{one_output, slots_end, worlds_are_kept};
 use nas_security::accepted_is_fresh;
 use s1ap_pdus::what_is_encoded;
 
@@ -58,20 +59,29 @@ pub fn acts_are_guarded()
 }
 
 /// Over a list of acts the countdown of a phone's phase runs and no other, and where the phone is silent its procedure ends, as
-/// `runs_end` says of events.
+/// `runs_end` says of events. After a list of acts, in 30 ticks in a row, everything ends as `everything_ends` says.
 pub fn acts_end()
-    ensures { ActsEnd }
+    ensures acts { ActsEnd }
+    ensures all { AllEndsAfterActs }
 {
     in_use_is_kept();
     soundness_is_kept();
     clocks_are_kept();
     silent_phones_end();
+    everything_ends();
+    what_is_given_stays_kept();
 }
 
-/// Over a list of acts from the beginning of an MME on each slot's radio keys are fresh, as `keys_are_fresh` says.
+/// Over a list of acts from the beginning of an MME on the radio keys that it hands out for each subscriber are fresh, as
+/// `keys_are_fresh` says.
 pub fn acts_hand_out_fresh_keys()
     ensures { ActsHandOutFreshKeys }
 {
     accepted_is_fresh();
     what_is_encoded();
+    one_output();
+    slots_end();
+    what_is_given_stays_kept();
+    slots_act_alone();
+    worlds_are_kept();
 }
