@@ -1,5 +1,5 @@
 -- What is fresh, who is let in and what ends over every list of acts of an MME, of each slot.
-use Rattle.std.proofs.Common.{◌≡◌, ℕ, true, List, [], ◌∷◌, ◌++◌, All, Option, Some, None, refl, sym, ◌∙◌, ap, subst}
+use Rattle.std.proofs.Common.{◌≡◌, ℕ, List, [], ◌∷◌, ◌++◌, All, Option, Some, None, refl, sym, ◌∙◌, ap, subst}
 use Rattle.std.specs.Prelude.{slice_get}
 use Rattle.std.specs.List.{AllZip}
 use Rattle.std.proofs.lemmas.List.Elements.{All-nil}
@@ -24,7 +24,7 @@ use Rattle.mme_core.specs.World.{World, fresh_world, strangers_in, subscriber_st
 use Rattle.laws_mme.specs.Acts.{Act, ActsKeep, act_after, act_reply, acts_run}
 use Rattle.laws_mme.specs.ActsAlone.{OwnAct, OwnItem, OwnProfile, OwnVector, SlotGoesAloneOverActs, own_act, own_acts, own_after, own_run_over, own_sent}
 use Rattle.laws_mme.specs.EndingActs.{ActsEnd, AllEndsAfterActs}
-use Rattle.laws_mme.specs.GuardedActs.{ActsAreGuarded, EverybodyHasProved, IsAway, IsGuardedOver, forms_at, vectors_in}
+use Rattle.laws_mme.specs.GuardedActs.{ActsAreGuarded, EverybodyHasProved, IsAway, forms_at, vectors_in}
 use Rattle.laws_mme.specs.EndingWorlds.{AllEndsInTime}
 use Rattle.laws_mme.specs.Handed.{AreFresh, Handing}
 use Rattle.laws_mme.specs.KeysOfMme.{connection_of, handed_told}
@@ -44,7 +44,7 @@ use Rattle.laws_mme.proofs.Late.{goes_on_or_ran_out}
 use Rattle.laws_mme.proofs.Looks.{vectors_may_come_late}
 use Rattle.laws_mme.proofs.ProvedOver.{keys_now, proved_now}
 use Rattle.laws_mme.proofs.SlotAtAct.{slot_act, slot_told_act}
-use Rattle.laws_mme.proofs.Stretches.{run, runs, used_now}
+use Rattle.laws_mme.proofs.Stretches.{runs, used_now}
 
 abbrev pub BegunInUse : Type 0
 BegunInUse = (s : Setting) → IsInUseAt (record { setting = s; solo = fresh_solo })

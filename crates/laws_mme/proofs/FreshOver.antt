@@ -1,6 +1,6 @@
 -- What is fresh over the acts of a slot: over each stretch it is as over items, and a stretch ends where no vector is left, so all
 -- that comes later is of later vectors.
-use Rattle.std.proofs.Common.{◌≡◌, ◌⊎◌, inl, inr, ℕ, zero, suc, ◌+◌, ◌<◌, ◌≤◌, ◌==◌, ◌&&◌, Bool, true, false, cond, not, List, [], ◌∷◌, ◌++◌, All, AllPairs, Option, Some, None, length, flat_map, option_to_list, append-nil, append_assoc, le_refl, refl, sym, ◌∙◌, ap, subst, arith}
+use Rattle.std.proofs.Common.{◌≡◌, inl, inr, ℕ, zero, suc, ◌<◌, ◌≤◌, ◌==◌, ◌&&◌, Bool, true, false, cond, not, List, [], ◌∷◌, ◌++◌, All, AllPairs, Option, Some, None, length, option_to_list, append-nil, append_assoc, refl, sym, ◌∙◌, ap, subst, arith}
 use Rattle.std.specs.Prelude.{slice_get}
 use Rattle.std.specs.List.{AllZip}
 use Rattle.std.proofs.lemmas.List.Elements.{All-append, All-cons, All-head, All-nil, All-tail, All-weaker}
@@ -14,7 +14,7 @@ use Rattle.emm_state.specs.declared.draft.Draft.{Draft}
 use Rattle.emm_state.specs.declared.setting.Setting.{Setting}
 use Rattle.emm_state.specs.declared.solo.Context.{Context}
 use Rattle.emm_state.specs.declared.solo.Phase.{Phase}
-use Rattle.emm_state.specs.declared.solo.Phase.TheVariants.{Deregistered, Authenticating, SecurityMode, EsmInformation, Accepting, Updating, Registered, Detaching}
+use Rattle.emm_state.specs.declared.solo.Phase.TheVariants.{Deregistered, Authenticating, SecurityMode}
 use Rattle.emm_state.specs.declared.solo.Solo.{Solo}
 use Rattle.emm_machine.specs.Freshness.{AcceptsAhead, AcceptsOnce, IsAhead, IsBefore, IsInUse, IsOfContext, MakesAhead, MakesOnce, SendsAhead, SendsOnce, StaysInUse, accepted_marks, counts_anew, marks_of, next_down, next_place, next_up, place_made, places_made, sent_marks}
 use Rattle.emm_machine.specs.Given.{is_stocked, with_given}
@@ -30,7 +30,7 @@ use Rattle.mme_core.specs.World.{subscriber_after, subscriber_step}
 use Rattle.laws_mme.specs.ActsAlone.{OwnAct, OwnItem, OwnProfile, OwnVector}
 use Rattle.laws_mme.specs.Challenges.{VectorsOverRuns}
 use Rattle.laws_mme.specs.Late.{GoesOnOrRanOut, RanOut}
-use Rattle.laws_mme.specs.OverActs.{IsAheadOf, IsFreshOver, accepted_marks_at, least_place, places_made_at, over_acts, sent_marks_at}
+use Rattle.laws_mme.specs.OverActs.{IsAheadOf, IsFreshOver, accepted_marks_at, places_made_at, over_acts, sent_marks_at}
 use Rattle.laws_mme.proofs.Accepted.{AcceptedBy, accepted_by_own}
 use Rattle.laws_mme.proofs.Guards.{IsInUseAt}
 use Rattle.laws_mme.proofs.Holding.{floor_le}

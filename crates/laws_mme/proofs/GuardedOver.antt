@@ -1,30 +1,18 @@
 -- Who is let in, over the acts of a slot: what is sent is under its mark, and the proof came since the phone was last away.
-use Rattle.std.proofs.Common.{◌≡◌, ◌≢◌, ◌⊎◌, inl, inr, ℕ, Bool, true, false, cond, List, [], ◌∷◌, ◌++◌, All, Option, Some, None, Ok, flat_map, append-nil, append_assoc, refl, sym, ◌∙◌, ap, subst}
-use Rattle.std.specs.Prelude.{slice_get}
+use Rattle.std.proofs.Common.{◌≡◌, ℕ, Bool, true, false, cond, List, [], ◌∷◌, ◌++◌, All, Option, Some, None, append-nil, append_assoc, sym, ◌∙◌, ap, subst}
 use Rattle.std.specs.List.{AllZip}
 use Rattle.std.proofs.lemmas.List.Elements.{All-append, All-nil, All-weaker}
-use Rattle.std.proofs.lemmas.Option.{same_Some}
-use Rattle.s1ap_pdus.specs.declared.pdu.Pdu.{Pdu}
-use Rattle.s1ap_pdus.specs.Pdus.{decoded}
 use Rattle.identity_slots.specs.declared.profile.Vector.{Vector}
 use Rattle.mme_types.specs.declared.network.Network.{Network}
 use Rattle.mme_types.specs.declared.octets.Answer.{Answer}
 use Rattle.mme_types.specs.declared.octets.Mark.{Mark}
-use Rattle.mme_types.specs.Events.{Item}
-use Rattle.emm_state.specs.declared.draft.Draft.{Draft}
 use Rattle.emm_state.specs.declared.setting.Setting.{Setting}
-use Rattle.emm_state.specs.declared.solo.Phase.{Phase}
-use Rattle.emm_state.specs.declared.solo.Phase.TheVariants.{Deregistered}
-use Rattle.emm_state.specs.declared.solo.Solo.{Solo}
 use Rattle.emm_machine.specs.Freshness.{StaysInUse, marks_of}
 use Rattle.emm_machine.specs.Given.{having, is_stocked, with_given}
-use Rattle.emm_machine.specs.Steps.{solo_after, solo_step}
 use Rattle.emm_machine.specs.SubscriberView.{SubscriberView}
-use Rattle.laws_subscriber.specs.Choices.{either}
 use Rattle.laws_subscriber.specs.Clocked.{StaysClocked}
-use Rattle.laws_subscriber.specs.Keys.{GoesToTheProved, HasKeyOf, KeysToTheProved, has_radio_key}
 use Rattle.laws_subscriber.specs.Marked.{AreFormsUnder, IsFormUnder, IsMarked, SendsInOrder, SendsMarked, protected_among, protected_within}
-use Rattle.laws_subscriber.specs.Sound.{IsSound, StaysSound}
+use Rattle.laws_subscriber.specs.Sound.{StaysSound}
 use Rattle.mme_core.specs.World.{subscriber_after, subscriber_step}
 use Rattle.laws_mme.specs.ActsAlone.{OwnAct, OwnItem, OwnProfile, OwnVector}
 use Rattle.laws_mme.specs.GuardedActs.{forms_at}

@@ -1,20 +1,15 @@
 -- Over the acts of a slot the radio keys that are handed out rise.
 use Rattle.std.proofs.Common.{◌≡◌, ℕ, List, [], ◌∷◌, ◌++◌, Option, Some, None, inl, inr, refl, sym, ap, subst, le_refl, arith}
-use Rattle.std.specs.Prelude.{slice_get, AllPairs}
-use Rattle.std.specs.List.{AllZip}
-use Rattle.s1ap_pdus.specs.declared.pdu.Pdu.{Pdu}
 use Rattle.s1ap_pdus.specs.Pdus.{encoded}
 use Rattle.identity_slots.specs.declared.profile.Vector.{Vector}
 use Rattle.mme_types.specs.declared.network.Network.{Network}
 use Rattle.mme_types.specs.declared.octets.Mark.{Mark}
-use Rattle.mme_types.specs.Events.{Item}
 use Rattle.emm_state.specs.declared.draft.Draft.{Draft}
 use Rattle.emm_state.specs.declared.setting.Setting.{Setting}
 use Rattle.emm_state.specs.declared.solo.Context.{Context}
 use Rattle.emm_state.specs.declared.solo.Solo.{Solo}
 use Rattle.emm_machine.specs.Freshness.{next_place}
-use Rattle.emm_machine.specs.Given.{is_stocked, with_given}
-use Rattle.emm_machine.specs.Steps.{solo_step}
+use Rattle.emm_machine.specs.Given.{is_stocked}
 use Rattle.emm_machine.specs.SubscriberView.{SubscriberView}
 use Rattle.emm_machine.specs.Words.{fresh_solo}
 use Rattle.laws_subscriber.specs.Choices.{either}
@@ -22,13 +17,13 @@ use Rattle.mme_core.specs.Provisioning.{fresh_subscriber}
 use Rattle.mme_core.specs.World.{subscriber_after, subscriber_step}
 use Rattle.laws_mme.specs.ActsAlone.{OwnAct, OwnItem, OwnProfile, OwnVector, own_run_over}
 use Rattle.laws_mme.specs.GuardedActs.{vectors_in}
-use Rattle.laws_mme.specs.Handed.{AreFresh, Handing, IsBefore, IsHandedAs, RadioKey, handed_by}
-use Rattle.laws_mme.specs.KeysOfMessage.{IsKept, IsOfAccepted, kenb_in}
+use Rattle.laws_mme.specs.Handed.{AreFresh, Handing, RadioKey, handed_by}
+use Rattle.laws_mme.specs.KeysOfMessage.{IsOfAccepted}
 use Rattle.laws_mme.specs.OverActs.{over_acts}
 use Rattle.laws_mme.proofs.GuardedOver.{early, longer_of}
 use Rattle.laws_mme.proofs.Holding.{HeldIn, IsHeld, IsOfVector, Part, part_of}
 use Rattle.laws_mme.proofs.KeyActions.{Gives, IsDone, IsGiven, Silent}
-use Rattle.laws_mme.proofs.KeyOrder.{IsUpTo, after, first_of, place_up, row_rises}
+use Rattle.laws_mme.proofs.KeyOrder.{after, first_of, place_up, row_rises}
 use Rattle.laws_mme.proofs.KeyRows.{ShortIsFresh, WholeIsFresh, done_step}
 use Rattle.laws_mme.proofs.KeyRuns.{AreInRow, WhatIsEncoded, given_row, none_of}
 use Rattle.laws_mme.proofs.Longer.{IsLonger, longer}

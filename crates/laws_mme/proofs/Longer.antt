@@ -1,11 +1,11 @@
 -- A longer list of vectors: what stands at a place stays there, and what is sound stays so.
-use Rattle.std.proofs.Common.{◌≡◌, ℕ, zero, suc, List, [], ◌∷◌, ◌++◌, Option, Some, None, refl}
+use Rattle.std.proofs.Common.{◌≡◌, ℕ, zero, suc, List, [], ◌∷◌, ◌++◌, Option, Some}
 use Rattle.std.specs.Prelude.{slice_get}
 use Rattle.identity_slots.specs.declared.profile.Vector.{Vector}
 use Rattle.emm_state.specs.declared.setting.Setting.{Setting}
 use Rattle.emm_state.specs.declared.solo.Context.{Context}
 use Rattle.emm_state.specs.declared.solo.Phase.{Phase}
-use Rattle.emm_state.specs.declared.solo.Phase.TheVariants.{Deregistered, Authenticating, SecurityMode, EsmInformation, Accepting, Updating, Registered, Detaching}
+use Rattle.emm_state.specs.declared.solo.Phase.TheVariants.{Deregistered, Authenticating, SecurityMode}
 use Rattle.emm_state.specs.declared.solo.Solo.{Solo}
 use Rattle.emm_machine.specs.Given.{having}
 use Rattle.laws_subscriber.specs.Sound.{HasChallenge, HasContext, IsOfVector, IsSound}

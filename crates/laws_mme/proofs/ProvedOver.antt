@@ -1,6 +1,6 @@
 -- Who was away and is past the proof has proved itself over the acts: since the phone was last left without a vector, the machine
 -- went on as one that had all of them, which is a run over items.
-use Rattle.std.proofs.Common.{◌≡◌, ◌≢◌, ◌⊎◌, inl, inr, ℕ, Bool, true, false, cond, List, [], ◌∷◌, ◌++◌, All, Option, Some, None, Ok, append-nil, append_assoc, refl, sym, ◌∙◌, ap, subst}
+use Rattle.std.proofs.Common.{◌≡◌, ◌≢◌, ◌⊎◌, inl, inr, ℕ, true, List, [], ◌∷◌, ◌++◌, Option, Some, None, Ok, append-nil, append_assoc, refl, sym, ◌∙◌, ap, subst}
 use Rattle.std.specs.Prelude.{slice_get}
 use Rattle.std.proofs.lemmas.List.Elements.{All-weaker}
 use Rattle.std.proofs.lemmas.Option.{same_Some}
@@ -13,11 +13,10 @@ use Rattle.mme_types.specs.Events.{Item}
 use Rattle.emm_state.specs.declared.draft.Draft.{Draft}
 use Rattle.emm_state.specs.declared.setting.Setting.{Setting}
 use Rattle.emm_state.specs.declared.solo.Context.{Context}
-use Rattle.emm_state.specs.declared.solo.Phase.{Phase}
 use Rattle.emm_state.specs.declared.solo.Phase.TheVariants.{Deregistered}
 use Rattle.emm_state.specs.declared.solo.Solo.{Solo}
 use Rattle.emm_machine.specs.Freshness.{StaysInUse}
-use Rattle.emm_machine.specs.Given.{is_stocked, with_given}
+use Rattle.emm_machine.specs.Given.{is_stocked}
 use Rattle.emm_machine.specs.Steps.{solo_after, solo_step}
 use Rattle.emm_machine.specs.SubscriberView.{SubscriberView}
 use Rattle.emm_machine.specs.Words.{fresh_solo}
@@ -32,7 +31,7 @@ use Rattle.laws_mme.specs.ActsAlone.{OwnAct, OwnItem, OwnProfile, OwnVector, own
 use Rattle.laws_mme.specs.EndingActs.{items_in}
 use Rattle.laws_mme.specs.GuardedActs.{ChallengesAt, GivesKeysByProofOver, IsAway, IsProvedNow, IsProvedOver, NeverAwayOver, vectors_in}
 use Rattle.laws_mme.specs.Late.{GoesOn, GoesOnOrRanOut}
-use Rattle.laws_mme.proofs.GuardedOver.{IsEarly, early}
+use Rattle.laws_mme.proofs.GuardedOver.{early}
 use Rattle.laws_mme.proofs.Guards.{IsInUseAt}
 use Rattle.laws_mme.proofs.Longer.{sound_longer}
 use Rattle.laws_mme.proofs.Stretches.{run, run_both, runs, taking, used_item, used_now, used_run, used_taking}
@@ -356,8 +355,7 @@ module _ (splits : GoesOnOrRanOut) (stays : StaysInUse) (sounds : StaysSound) (c
           let same : run x acts ≡ run y l.back = ap (λ (a : List OwnAct). run x a) l.whole ∙ run_both x l.front l.back in
           let r =
           proved_stretch y l.back l.on (used_run stays sounds clocks x l.front u) l.away
-          (subst (λ (z : SubscriberView). is_past_proof z.solo.phase ≡ true) same past) in
-          (
+          (subst (λ (z : SubscriberView). is_past_proof z.solo.phase ≡ true) same past) in (
             r.0,
             ap (λ (z : SubscriberView). z.solo.context) same ∙ r.1,
             subst (λ (a : List OwnAct). IsProvedOver n slot (Some x) a r.0.place) (sym l.whole) (more_before n slot x l.front l.back r.0.place r.2),
@@ -406,3 +404,4 @@ module _ (splits : GoesOnOrRanOut) (stays : StaysInUse) (sounds : StaysSound) (c
         let context : g.context ≡ r.0 = same_Some g.context r.0 (sym g.kept ∙ r.1) in
         (r.0, r.1, subst (λ (c : Context). HasKeyOf c m) context g.key, r.2)) d.sent
         (gives y.setting y.solo item (used_now stays sounds clocks begun n slot x seen y u at).sound)
+

@@ -1,5 +1,5 @@
 -- The machine of a slot over its acts: stretches over which it goes on as with the vectors that it has at the end of them.
-use Rattle.std.proofs.Common.{◌≡◌, ℕ, Bool, true, false, cond, List, [], ◌∷◌, ◌++◌, Option, Some, None, append-nil, append_assoc, refl, sym, ◌∙◌, ap, subst}
+use Rattle.std.proofs.Common.{◌≡◌, ℕ, cond, List, [], ◌∷◌, ◌++◌, Option, Some, None, append-nil, append_assoc, refl, sym, ◌∙◌, ap, subst}
 use Rattle.std.proofs.lemmas.Option.{same_Some}
 use Rattle.identity_slots.specs.declared.profile.Vector.{Vector}
 use Rattle.mme_types.specs.declared.network.Network.{Network}
@@ -13,7 +13,7 @@ use Rattle.emm_machine.specs.Steps.{solo_after, solo_step}
 use Rattle.emm_machine.specs.SubscriberView.{SubscriberView}
 use Rattle.emm_machine.specs.Words.{fresh_solo}
 use Rattle.laws_subscriber.specs.Choices.{either}
-use Rattle.laws_subscriber.specs.Clocked.{IsClocked, StaysClocked}
+use Rattle.laws_subscriber.specs.Clocked.{StaysClocked}
 use Rattle.laws_subscriber.specs.Sound.{IsSound, StaysSound}
 use Rattle.mme_core.specs.Provisioning.{fresh_subscriber}
 use Rattle.mme_core.specs.World.{subscriber_after}

@@ -1,7 +1,6 @@
 -- What a slot's machine sends and accepts over a list of its acts, whatever it is given meanwhile, and what of it is fresh, in the
 -- words of runs over items (`IsFreshRun`).
-use Rattle.std.specs.Prelude.{◌≡◌, ◌≤◌, ◌<◌, ℕ, List, [], ◌∷◌, ◌++◌, All, AllPairs, Option, Some, None, option_to_list, slice_get}
-use Rattle.identity_slots.specs.declared.profile.Vector.{Vector}
+use Rattle.std.specs.Prelude.{◌≤◌, ◌<◌, ℕ, List, [], ◌∷◌, ◌++◌, All, AllPairs, Option, Some, None, option_to_list, slice_get}
 use Rattle.mme_types.specs.declared.network.Network.{Network}
 use Rattle.mme_types.specs.declared.octets.Answer.{Answer}
 use Rattle.mme_types.specs.declared.octets.Mark.{Mark}
