@@ -49,7 +49,7 @@ acts_on w act acts slot h =
 -- ---- a slot
 
 -- what its machine and its acts come to, from the MME after an act on
-own_on : {A : Type 0} (f : Network → Option SubscriberView → List OwnAct → A) → GoesAlone → (w : World) (act : Act) (acts : List Act)
+pub own_on : {A : Type 0} (f : Network → Option SubscriberView → List OwnAct → A) → GoesAlone → (w : World) (act : Act) (acts : List Act)
     (slot : ℕ) → IsKept w
     → f (act_after w act).sight.config.network (slice_get (act_after w act).subscribers slot) (own_acts slot (act_after w act) acts)
     ≡ f w.sight.config.network

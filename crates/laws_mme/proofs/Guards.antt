@@ -22,12 +22,12 @@ use Rattle.laws_mme.specs.Guards.{RunEnds, RunIsFresh, RunIsGuarded}
 
 -- ---- one of those in use
 
-record IsInUseAt (x : SubscriberView) : Type 0 where
+pub record IsInUseAt (x : SubscriberView) : Type 0 where
   pub used : IsInUse x.solo
   pub sound : IsSound x.setting x.solo
   pub clocked : IsClocked x.solo
 
-in_use_at : (ws : List SubscriberView) (k : ℕ) (x : SubscriberView) → AreInUse ws → slice_get ws k ≡ Some x → IsInUseAt x
+pub in_use_at : (ws : List SubscriberView) (k : ℕ) (x : SubscriberView) → AreInUse ws → slice_get ws k ≡ Some x → IsInUseAt x
 in_use_at [] k x h at = cc
 in_use_at (y ∷ ws) zero x h at =
     let here : y ≡ x = cc in

@@ -26,10 +26,10 @@ abbrev pub WhatIsEncoded : Type 0
 WhatIsEncoded = (m : Pdu (List ℕ)) (os : List ℕ) → encoded m ≡ Some os → decoded os ≡ Ok m
 
 -- messages with radio keys have keys that rise, none earlier than the first
-record AreInRow (s : Setting) (f : RadioKey) (handed : List Handing) : Type 0 where
-  keys : List RadioKey
-  each : AllZip (IsHandedAs s.vectors) keys handed
-  row : IsRow f keys
+pub record AreInRow (s : Setting) (f : RadioKey) (handed : List Handing) : Type 0 where
+  pub keys : List RadioKey
+  pub each : AllZip (IsHandedAs s.vectors) keys handed
+  pub row : IsRow f keys
 
 taken : {A : Type 0} (b : Bool) (xs : List A) → b ≡ true → cond b xs [] ≡ xs
 taken true xs is = refl
@@ -41,7 +41,7 @@ left_out false xs is = refl
 
 module _ (what : WhatIsEncoded) where
   -- what has no radio key hands out none
-  none_of : (c : Option Connection) (sent : List Answer) → All IsKeyless sent → handed_of c sent ≡ []
+  pub none_of : (c : Option Connection) (sent : List Answer) → All IsKeyless sent → handed_of c sent ≡ []
   none_of c [] h = refl
   none_of c (a ∷ rest) h =
       let k = All-head IsKeyless a rest h in
@@ -60,7 +60,7 @@ module _ (what : WhatIsEncoded) where
       ∙ ap (λ (zs : List Handing). zs ++ handed_of c last) (none_of c g.earlier g.keyless)
 
   -- a key that was handed out goes before those that follow
-  given_row : {s : Setting} {b : Solo} {f k : RadioKey} (d : Draft) (zs : List Handing) (g : IsGiven s b k d) (o : Option (List ℕ))
+  pub given_row : {s : Setting} {b : Solo} {f k : RadioKey} (d : Draft) (zs : List Handing) (g : IsGiven s b k d) (o : Option (List ℕ))
       → encoded g.message ≡ o → IsUpTo f k → AreInRow s (after k) zs → AreInRow s f (handed_by d ++ zs)
   given_row {s = s} {f = f} {k = k} d zs g None is up rest =
       subst (AreInRow s f) (sym (ap (λ (hs : List Handing). hs ++ zs) (last_of d g None is))) (record {

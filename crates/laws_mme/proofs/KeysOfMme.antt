@@ -25,7 +25,7 @@ use Rattle.laws_mme.specs.KeysOfMme.{MmeKeysAreFresh, connection_of, handed_for,
 first_same : {A : Type 0} {x y : A} → ◌≡◌ {A = List A} (x ∷ []) (y ∷ []) → x ≡ y
 first_same is = cc
 
-told_same : (c : Option Connection) (sent : List Answer) → handed_told c (map answer_told sent) ≡ handed_of c sent
+pub told_same : (c : Option Connection) (sent : List Answer) → handed_told c (map answer_told sent) ≡ handed_of c sent
 told_same c [] = refl
 told_same c (a ∷ rest) = ap (λ (zs : List Handing). handed_in c a.station (decoded a.octets) ++ zs) (told_same c rest)
 
@@ -55,7 +55,7 @@ alone told goes stays slot w (e ∷ es) x h at =
           ∙ ap (λ (zs : List Handing). handed_by d ++ zs) rest.same;
     }
 
-fresh_at : (n : Network) (slot : ℕ) (ps : List Profile) (vectors : List (List Vector)) (k : ℕ) (x : SubscriberView)
+pub fresh_at : (n : Network) (slot : ℕ) (ps : List Profile) (vectors : List (List Vector)) (k : ℕ) (x : SubscriberView)
     → slice_get (fresh_subscribers n slot ps vectors) k ≡ Some x → x.solo ≡ fresh_solo
 fresh_at n slot [] vectors k x at = absurd (cc at)
 fresh_at n slot (p ∷ ps) vectors zero x at = sym (ap (λ (y : SubscriberView). y.solo) (same_Some _ x at))

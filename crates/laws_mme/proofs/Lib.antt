@@ -43,3 +43,13 @@ mod Calls
 pub mod Husks
 pub mod Remembering
 mod RememberedKept
+mod Late
+mod Longer
+mod Stretches
+mod Accepted
+mod FreshOver
+mod GuardedOver
+mod ProvedOver
+mod EndsOver
+mod KeysOver
+mod ActsLaws

@@ -33,3 +33,8 @@ pub mod ActsAlone
 pub mod Early
 pub mod ActByAct
 pub mod Restarts
+pub mod Late
+pub mod OverActs
+pub mod GuardedActs
+pub mod EndingActs
+pub mod KeysOverActs

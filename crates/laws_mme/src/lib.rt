@@ -5,6 +5,7 @@
 //! by `Mme::add`, one vector by `Mme::give`.
 #![tactic(auto)]
 
+mod acting;
 mod ends;
 mod forgetting;
 mod fresh_keys;
@@ -19,6 +20,9 @@ mod stepping;
 mod steps;
 mod tables;
 
+pub use acting::{
+    acts_are_fresh, acts_are_guarded, acts_end, acts_hand_out_fresh_keys, goes_on_or_ran_out,
+};
 pub use ends::{everything_ends, silent_slots_end};
 pub use forgetting::{nobody_sees_what_is_kept, nothing_is_kept};
 pub use fresh_keys::{an_mme_hands_out_fresh_keys, kenb_is_of_its_message, keys_are_fresh};
