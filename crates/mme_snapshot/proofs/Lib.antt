@@ -20,3 +20,6 @@ pub mod Subscribers
 pub mod Counting
 pub mod Progress
 pub mod SavedStations
+pub mod Body
+pub mod Versions
+pub mod AtPlaces

@@ -1,5 +1,5 @@
 -- A limit of next hops makes nothing else of octets, or refuses them for it.
-use Rattle.std.proofs.Common.{◌≡◌, ◌≢◌, ◌⊎◌, inl, inr, ℕ, zero, suc, ◌+◌, List, Bool, true, false, cond, Option, Some, None, Result, Ok, Err, refl, sym, ◌∙◌, ap, subst}
+use Rattle.std.proofs.Common.{◌≡◌, ◌≢◌, ◌⊎◌, inl, inr, ℕ, zero, suc, ◌+◌, List, Bool, true, false, cond, Some, None, Result, Ok, Err, refl, sym, ◌∙◌, ap, subst}
 use Rattle.std.specs.Prelude.{◌==◌, nat_lt}
 use Rattle.per_streams.specs.Bits.{Place, start}
 use Rattle.per_bits.specs.Formats.{Value, number}
@@ -9,7 +9,7 @@ use Rattle.snapshot_formats.specs.Formats.{saved_subscriber}
 use Rattle.mme_snapshot.specs.declared.fault.RestoreFault.{RestoreFault}
 use Rattle.mme_snapshot.specs.declared.fault.RestoreFault.TheVariants as faults
 use Rattle.mme_snapshot.specs.Images.{hops_of}
-use Rattle.mme_snapshot.specs.Restored.{◌>=>◌, Built, as_more, as_octets, begun, body_at, head_at, part_at, profile_in, profiled_added, repeated, restored, restored_within, stations_at, strangers_at, subscriber_added, subscriber_at_place, subscribers_at, version}
+use Rattle.mme_snapshot.specs.Restored.{◌>=>◌, Built, as_octets, begun, body_at, head_at, part_at, profile_in, profiled_added, repeated, restored, restored_within, stations_at, strangers_at, subscriber_added, subscriber_at_place, subscribers_at, version}
 
 -- with a limit the same as without, or Work
 abbrev IsWithin : {A : Type 0} → Result A RestoreFault → Result A RestoreFault → Type 0

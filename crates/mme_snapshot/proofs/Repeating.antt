@@ -1,7 +1,7 @@
 -- A step made a number of times, as a loop makes it.
-use Rattle.std.proofs.Common.{◌≡◌, ℕ, zero, suc, ◌-◌, ◌+◌, ◌<◌, ◌≤◌, Result, Ok, Err, refl, sym, ◌∙◌, ap, arith}
+use Rattle.std.proofs.Common.{◌≡◌, ℕ, suc, ◌-◌, ◌+◌, ◌<◌, ◌≤◌, Result, Ok, Err, refl, sym, ◌∙◌, arith}
 use Rattle.mme_snapshot.specs.declared.fault.RestoreFault.{RestoreFault}
-use Rattle.mme_snapshot.specs.Restored.{◌>=>◌, repeated}
+use Rattle.mme_snapshot.specs.Restored.{repeated}
 
 pub goes_on : {S : Type 0} (step : S → Result S RestoreFault) (count i : ℕ) (s t : S) (total : Result S RestoreFault) → i < count
     → step s ≡ Ok t → repeated step (count - i) s ≡ total → repeated step (count - (i + 1)) t ≡ total

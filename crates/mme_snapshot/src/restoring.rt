@@ -2,8 +2,9 @@
 
 ghost use Rattle.std.specs.Prelude.{◌≡◌, ◌≢◌, ◌+◌, ◌<◌, ◌≤◌, [], length, Ok, Err, Some, IfErr, IfOk};
 ghost use Rattle.identity_slots.specs.Ids.{slots};
+ghost use Rattle.per_streams.specs.Bits.{end_at};
 ghost use Rattle.mme_snapshot.specs.declared.fault.RestoreFault.TheVariants.{NoMemory, Work};
-ghost use Rattle.mme_snapshot.specs.Restored.{as_octets, body_at, head_at, part_at, repeated, restored, restored_within, stations_at, stranger_at_place, strangers_at, subscriber_at_place, subscribers_at};
+ghost use Rattle.mme_snapshot.specs.Restored.{as_more, as_octets, body_at, head_at, part_at, repeated, restored, restored_within, stations_at, stranger_at_place, strangers_at, subscriber_at_place, subscribers_at};
 
 use crate::building::Building;
 use crate::fault::RestoreFault;
@@ -142,10 +143,10 @@ fn read_each_stranger(
 }
 
 // One subscriber more, for at most so many next hops in all.
-fn read_subscriber<'a>(
+fn read_subscriber(
     alloc: Global,
     building: Building,
-    reader: &mut BitReader<'a>,
+    reader: &mut BitReader,
     most: u64,
 ) -> Result<Building, RestoreFault>
     requires { length building.world.subscribers < slots }
@@ -154,7 +155,7 @@ fn read_subscriber<'a>(
         (λ fault. fault ≢ NoMemory → subscriber_at_place (Some most) (building, reader.old) ≡ Err fault) }
     ensures count { IfOk result (λ b. length b.world.subscribers ≡ length building.world.subscribers + 1) }
 {
-    let saved = read_part::<SavedSubscriber<'a>>(alloc, reader)?;
+    let saved = lent_part!(SavedSubscriber, alloc, reader);
     building.subscriber(&saved, most)
 }
 
@@ -205,15 +206,23 @@ fn read_body(alloc: Global, reader: &mut BitReader, most: u64) -> Result<Mme, Re
     let building = made!(Building::begin(alloc, head, stations));
     let building = read_strangers(alloc, building, reader)?;
     let building = read_subscribers(alloc, building, reader, most)?;
-    if reader.end().is_err() {
-        return Err(RestoreFault::More);
-    }
+    read_end(reader)?;
     Ok(made!(building.finish()))
+}
+
+// Zeros up to the next octet, and nothing after it; else More.
+fn read_end(reader: &mut BitReader) -> Result<(), RestoreFault>
+    ensures ok { IfOk result (λ _. as_more (end_at reader.old) ≡ Ok (tt, reader.new)) }
+    ensures refused { IfErr result (λ fault. as_more (end_at reader.old) ≡ Err fault) }
+{
+    match reader.end() {
+        Ok(()) => Ok(()),
+        Err(_) => Err(RestoreFault::More),
+    }
 }
 
 /// The MME of octets, whatever they are: that of which they are a snapshot, or their first fault from the left. At most `work` next
 /// hops are derived for it (TS 33.401 clause A.4), else Work; NoMemory where memory was refused.
-#[tactic(auto, unfolding(crate::specs::Restored::restored_within))]
 pub fn restore(alloc: Global, octets: &[u8], work: u64) -> Result<Mme, RestoreFault>
     ensures ok { IfOk result (λ m. restored octets.now ≡ Ok m) }
     ensures refused { IfErr result (λ fault. fault ≢ NoMemory → fault ≢ Work → restored octets.now ≡ Err fault) }

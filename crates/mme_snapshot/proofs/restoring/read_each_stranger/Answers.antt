@@ -15,8 +15,8 @@ pub returns-in_err-building-clause-refused : goal.returns-in_err-building-clause
 returns-in_err-building-clause-refused c =
     let p = err_from_is_err_and c.from_residual.result c.from_residual.ensures.1 in
     rw (p.1, p.2) (λ known.
-        ends stranger_at_place c.in_err-building.field-0.0 c.args.count c.loop.counter (c.loop.building, c.loop.reader) _ c.loop-test.true
-        (c.in_err-building.ensures.refused known) c.loop.invariant.so_far)
+    ends stranger_at_place c.in_err-building.field-0.0 c.args.count c.loop.counter (c.loop.building, c.loop.reader) _ c.loop-test.true
+    (c.in_err-building.ensures.refused known) c.loop.invariant.so_far)
 
 pub returns-clause-ok : goal.returns-clause-ok
 returns-clause-ok c =

@@ -1,4 +1,4 @@
-use Rattle.std.proofs.Common.{◌≡◌, ◌∙◌, ap, arith}
+use Rattle.std.proofs.Common.{◌∙◌, ap, arith}
 use Rattle.std.specs.Prelude.{slice_set}
 use Rattle.std.proofs.lemmas.Result.{err_from_is_err_and}
 use Rattle.mme_types.specs.Stations.{no_stations}
@@ -21,8 +21,8 @@ pub returns-in_err-saved-clause-refused : goal.returns-in_err-saved-clause-refus
 returns-in_err-saved-clause-refused c =
     let p = err_from_is_err_and c.from_residual.result c.from_residual.ensures.1 in
     rw (p.1, p.2) (λ known.
-        one_refused c.loop-number.number c.loop-number.stations c.loop-number.reader c.args.reader.now c.in_err-saved.field-0.0
-        c.loop-number.invariant c.loop-number-test.true (c.in_err-saved.ensures.refused known))
+    one_refused c.loop-number.number c.loop-number.stations c.loop-number.reader c.args.reader.now c.in_err-saved.field-0.0
+    c.loop-number.invariant c.loop-number-test.true (c.in_err-saved.ensures.refused known))
 
 pub returns-clause-ok : goal.returns-clause-ok
 returns-clause-ok c =
