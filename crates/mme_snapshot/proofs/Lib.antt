@@ -16,3 +16,4 @@ pub mod Subscribers
 pub mod Counting
 pub mod Progress
 pub mod SavedStations
+pub mod Joining
