@@ -23,3 +23,4 @@ pub mod SavedStations
 pub mod Body
 pub mod Versions
 pub mod AtPlaces
+pub mod Joining

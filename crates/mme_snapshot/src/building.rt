@@ -2,9 +2,10 @@
 
 ghost use Rattle.std.specs.Prelude.{◌≡◌, ◌≢◌, ◌<◌, ◌+◌, [], length, Ok, Err, IfErr, IfOk};
 ghost use Rattle.identity_slots.specs.Ids.{slots};
+ghost use Rattle.identity_slots.specs.declared.provision.ProvisionFault.TheVariants as faults;
 ghost use Rattle.mme_snapshot.specs.Images.{empty_world, with_known};
 ghost use Rattle.mme_snapshot.specs.Restored.{begun, stranger_added, subscriber_added};
-ghost use Rattle.mme_snapshot.specs.declared.fault.RestoreFault.TheVariants.{NoMemory};
+ghost use Rattle.mme_snapshot.specs.declared.fault.RestoreFault.TheVariants.{NoMemory, Profile};
 ghost use Rattle.snapshot_formats.specs.Heads.{typed_saved_stranger};
 ghost use Rattle.snapshot_formats.specs.Subscribers.{typed_saved_subscriber};
 
@@ -44,6 +45,17 @@ impl Model for Building {
 
     ghost invariant = { λ b. IsBuilding b.shared b.owners.clock
         (parts_world b.config b.clock b.stations b.provision.profiles b.owners) };
+}
+
+// Why a subscriber who can't be provisioned isn't restored.
+fn profile_fault(slot: Slot, fault: ProvisionFault) -> RestoreFault
+    ensures memory { fault ≡ faults.NoMemory → result ≡ NoMemory }
+    ensures profile { fault ≢ faults.NoMemory → result ≡ Profile slot fault }
+{
+    match fault {
+        ProvisionFault::NoMemory => RestoreFault::NoMemory,
+        _ => RestoreFault::Profile(slot, fault),
+    }
 }
 
 impl Building {
@@ -115,8 +127,7 @@ impl Building {
         let mut provision = self.provision;
         match provision.add(profile) {
             Ok(_) => {}
-            Err(ProvisionFault::NoMemory) => return Err(RestoreFault::NoMemory),
-            Err(fault) => return Err(RestoreFault::Profile(slot, fault)),
+            Err(fault) => return Err(profile_fault(slot, fault)),
         }
         let hops = match self.hops.checked_add(hops_of(saved)) {
             Some(hops) if hops <= most => hops,
