@@ -12,12 +12,14 @@ REST = 0.02  # seconds until a door that too many came to opens again, and until
 
 
 class Guest:
-    """One who asks. `take` is called with what it has said so far, and returns what is left of that."""
+    """One who asks. `take` is called with what it has said so far, and returns what is left of that; where that is the beginning of
+    something long, `wanted` says how many octets it has."""
 
     def __init__(self, loop, connection, most, seconds, take, left):
         self.loop, self.connection, self.most, self.seconds = loop, connection, most, seconds
         self.take, self.left = take, left  # what is done with what it says, and when it has gone
         self.received, self.waiting, self.size = b"", collections.deque(), 0
+        self.further, self.wanted = bytearray(), 0  # what it said since `take` was called last
         self.is_last, self.is_open, self.is_deaf, self.is_resting = False, True, False, False
         self.timer = None
         self.rest_assured()
@@ -59,10 +61,14 @@ class Guest:
         if not piece:
             self.close()
             return
-        self.received = self.take(self, self.received + piece)
+        self.further += piece
+        if len(self.received) + len(self.further) < self.wanted:
+            return
+        received, self.further, self.wanted = b"".join((self.received, self.further)), bytearray(), 0
+        self.received = self.take(self, received)
         if len(self.received) > self.most:
             self.close()
-        elif self.received and self.is_open and len(piece) < limits.PIECE:
+        elif self.received and not self.wanted and self.is_open and len(piece) < limits.PIECE:
             self.rest()
 
     def rest(self):
