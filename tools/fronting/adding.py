@@ -9,7 +9,7 @@ All lines of a file are looked at before the first is given: if one can't be tak
 hundreds in a turn, with what stations say between; the next come once these are answered. What follows phones learns of a line by
 the MME's answer to it (Front.lengthen), also where a log is played again. Whoever gives is answered once all of it is committed. If
 the run ends before, the log has the first of the lines, and the others are given at the next start, if they stand at the end of the
-subscribers' file.
+subscribers' file. `show` of a subscriber who was given stands in no log, since `mme play` would end there.
 """
 import collections
 import re

@@ -88,11 +88,16 @@ class Control:
         if imsi not in self.front.head.slots:
             reply(NOBODY)
             return
-        self.front.exchange.put("%s %s" % (word, imsi))
+        exchange, line = self.front.exchange, "%s %s" % (word, imsi)
+        note = lambda answer: reply("state %s %s" % (answer.imsi, answer.states))
+        if word == "show" and self.front.was_given(imsi):
+            exchange.ask([line], note, lambda: None)
+            return
+        exchange.put(line)
         if word == "show":
-            self.front.exchange.shows.append(lambda answer: reply("state %s %s" % (answer.imsi, answer.states)))
+            exchange.shows.append(note)
         else:
-            self.front.exchange.when_kept(lambda: reply("taken"))
+            exchange.when_kept(lambda: reply("taken"))
 
     def of_tunnel(self, word, imsi, *end):
         """Tells of a phone's tunnel, or has it be released where it leads to this end."""

@@ -60,7 +60,7 @@ class Front:
         self.aside, self.census, self.attaches, self.soundness = Aside(self), Census(self), Attaches(self), Soundness(self)
         self.traffic = Traffic(self)
         self.is_over, self.is_busy = False, False
-        self.known = set()  # the IMSIs of the head, and those that lines which are played add
+        self.known, self.begun = set(), 0  # IMSIs of the head and of lines that are played; how many the head began with
         self.resumed, self.given = 0, 0
         self.form = form_of(settings.log_keys, head)  # of the log, as it begins
         self.make = functools.partial(*((LibraryMme, library()) if settings.library else (PipedMme, settings.mme)))
@@ -134,7 +134,7 @@ class Front:
 
     def start_mme(self, head):
         """An MME with this head, and what follows its phones."""
-        self.head, self.known = head, set(head.slots)
+        self.head, self.known, self.begun = head, set(head.slots), len(head.imsis)
         if self.settings.library:
             head.prepare()
         self.stock = Stock(head, self.has_few)
@@ -477,6 +477,10 @@ class Front:
         self.stock.lengthen(self.head)
         if self.followers is not None:
             self.followers.lengthen()
+
+    def was_given(self, imsi):
+        """Whether a subscriber isn't of the log's head, so that `mme play` ends at `show` of it."""
+        return self.settings.library and self.head.slots[imsi] >= self.begun
 
     def has_refused(self, number, line):
         """The MME has refused a further line of provisioning, of those that are given now or of a log."""
