@@ -35,8 +35,8 @@ SETUP_REQUEST = bytes.fromhex("0011001f000003003b00080000f1100000001000400007000
 TIMES = re.compile(r"(?m)^(?:# time|# segment|# settled|tick) .*\n|(?<= port )\d+")
 BUILT = fronted.PROGRAM.exists()
 NOT_BUILT = "the program isn't built (./mme --prove)"
-# Of gives: seconds for one line and for all that an MME takes, and for a station's message meanwhile; how many times as much a
-# machine with other work may take.
+# Of gives: seconds for one line and for all that an MME takes, and for most messages of a station meanwhile; how many times as much
+# a machine with other work may take.
 ONE, ALL, TURN, ROOM = 0.01, 10, 0.05, 4
 LONG = 100000  # lines of a log
 OF_THE_RUN = re.compile("seconds|answer_seconds_mean|memory_octets|mme_memory_octets|log_octets")
@@ -347,11 +347,11 @@ class Cost(unittest.TestCase):
         finally:
             is_over.set()
             speaking.join()
-        seconds, delays = time.monotonic() - begun, sorted(delays)
+        seconds = time.monotonic() - begun
         self.assertEqual(told, "given 32767 subscribers, 262144 vectors\n")
         self.assertLess(seconds, ROOM * ALL)
-        self.assertLess(delays[len(delays) * 99 // 100], TURN)
-        self.assertLess(delays[-1], ROOM * TURN)
+        self.assertLess(statistics.median(delays), TURN)
+        self.assertLess(max(delays), 2 * limits.MOST_DELAY)
         self.assertEqual((running.stop()[0], len(further(running, ".counts"))), (0, 294911))
 
 

@@ -320,8 +320,8 @@ class Whole(unittest.TestCase):
         self.give("\n".join("sub %015d %08x 0a000064 %08x" % (place * 10, place, place) for place in range(1, 1001)))
         self.front.giving.refuse("the front ends")
         self.turn()
-        self.assertEqual(self.replies, ["refused: the front ends: the first 300 of 1000 lines were given"])
-        self.assertEqual(sum(map(len, self.batches)), 300)
+        self.assertEqual(self.replies, ["refused: the front ends: the first 200 of 1000 lines were given"])
+        self.assertEqual(sum(map(len, self.batches)), 200)
 
 
 class Keyless(unittest.TestCase):
@@ -446,7 +446,8 @@ class Long(Turned):
                     pass
                 self.turn(0.001)
             self.turn()
-        self.assertEqual((len(heard), heard[-1]), (2, b"x" * 300000))
+        self.assertEqual(heard[-1], b"x" * 300000)
+        self.assertLessEqual(len(heard), 2)
 
 
 class Told(unittest.TestCase):

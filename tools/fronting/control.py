@@ -14,6 +14,15 @@ NOT_LEADING = "refused: this front stands by, and another one leads"
 NOBODY = "refused %d: %s" % (runs.UNKNOWN_IMSI, runs.REFUSALS[runs.UNKNOWN_IMSI])
 
 
+def parted(octets, begin, end):
+    """What stands between two places, and what comes after it; of something long without a copy."""
+    if isinstance(octets, bytes):
+        return octets[begin:end], octets[end:]
+    rest = bytes(octets[end:])
+    del octets[end:], octets[:begin]
+    return octets, rest
+
+
 class Control:
     """Answers those who ask, each line after the one before."""
 
@@ -32,13 +41,13 @@ class Control:
                 if len(received) > limits.LONGEST_ASKED:
                     guest.close()
                 break
-            length, line = self.length_of(received[:end]), received[:end]
-            begin, end = end + 1, end + 1 + (length or 0)
-            if len(received) < end:
-                guest.wanted = end
+            line = bytes(received[:end])
+            length, begin = self.length_of(line), end + 1
+            if len(received) < begin + (length or 0):
+                guest.wanted = begin + length
                 break
-            text, received = None if length is None else received[begin:end], received[end:]
-            self.answer(guest, line, text)
+            text, received = parted(received, begin, begin + (length or 0))
+            self.answer(guest, line, None if length is None else text)
         return received
 
     def length_of(self, line):
