@@ -168,10 +168,47 @@ class GivenToPhones(test_front_log.GivenToPhones):
         for phone in self.phones:
             self.assertEqual(again.asks("show", phone.imsi), "state %s %s\n" % (phone.imsi, PHONES.IDLE))
 
+    def test_killed_between(self):
+        """Killed in the midst of many lines, a front has the first of them in its log, and gives the others at the next start; what
+        was asked for meanwhile wasn't given."""
+        running, _ = self.running(())
+        lines = ["sub %015d 0b%06x 0a000064 %08x" % (int(fronted.IMSI) + place, place, place) for place in range(10, 20010)]
+        (running.folder / "given").write_text("\n".join(lines) + "\n")
+        with subprocess.Popen([tools.TOP / "tools" / "front", "ask", running.control, "give", running.folder / "given"],
+                              stdout=subprocess.PIPE, stderr=subprocess.DEVNULL) as asking:
+            running.until(lambda: lines[1000] in running.log.read_text())
+            self.assertEqual(running.asks("give", running.subscribers), "fault something is being given already\n")
+            running.process.kill()
+            running.ended()
+            self.assertEqual(asking.stdout.read(), b"")
+        count = len(further(running))
+        self.assertEqual([line for _, line in further(running)], lines[:count])
+        self.assertLess(count, len(lines))
+        again = self.goes_on(running, head=self.head((), lines))
+        again.until(lambda: b"given %d subscribers, 0 vectors" % (len(lines) - count) in again.said())
+        self.assertEqual(again.asks("show", lines[-1].split(" ")[1]), "state %s DEREGISTERED IDLE INACTIVE\n" % lines[-1].split(" ")[1])
+        self.assertEqual([line for _, line in further(again)], lines)
+        self.assertEqual(again.stop()[0], 0)
+
+    def test_followed(self):
+        """Who follows the tunnels learns of a subscriber that is given."""
+        running, _ = self.running(())
+        line = "sub 001010000000009 0a000009 0a000064 00000009\n"
+        with socket.socket(socket.AF_UNIX) as following:
+            following.connect(str(running.control))
+            following.sendall(b"bearers\n")
+            told = following.makefile()
+            while told.readline() != "now\n":
+                pass
+            self.assertEqual(give(running, line), "given 1 subscriber, 0 vectors\n")
+            self.assertEqual(told.readline(), line)
+        self.assertIn("given: 1\n", running.asks("counters"))
+        self.assertEqual(running.stop()[0], 0)
+
     def test_refused(self):
         """A file of which one line can't be taken changes nothing."""
         running, talk = self.running(())
-        first, before = self.phones[0], whole
+        first = self.phones[0]
         first.attaches(self.station, 1)
         talk.settle()
         before = fronted.events_of(whole(running))

@@ -23,8 +23,9 @@ from tools.fronting.provisioning import OF_A_LOG, fields_of_further
 # A line as it has to be, H for a digit in hex; what is looked at is the IMSI with the address, or with RAND.
 FORM = re.compile("sub ([0-9]{14,15}) (H{8})(?: H{8}){2}|vec ([0-9]{14,15}) (H{32}) H{32} (?:HH){4,16} H{64}".replace(
     "H", "[0-9a-fA-F]"))
-LENGTHS = {"sub": "an address, an S-GW's address and its tunnel end have 8 digits each",
-           "vec": "RAND and AUTN have 16 octets, XRES 4 to 16, and KASME 32"}
+# What is said of another, and nothing of what it has, since that may be keys.
+LENGTHS = {"sub": "an address, an S-GW's address and its tunnel end have 8 digits in hex each",
+           "vec": "RAND and AUTN have 16 octets in hex, XRES 4 to 16, and KASME 32"}
 
 
 def parts_of(lines):
@@ -166,5 +167,8 @@ class Adding:
         if self.timer is not None:
             self.timer.cancel()
         word, _, why = answer.partition(" ")
-        self.front.voice.say(*("given", answer) if word == "given" else ("not_given", "not given: " + why))
+        if word == "given":
+            self.front.voice.say("given", answer)
+        elif word == "refused:":
+            self.front.voice.say("not_given", "not given: " + why)
         self.reply(answer)

@@ -490,12 +490,17 @@ class Front:
     def give_more(self, lines):
         """Gives the lines of the subscribers' file that the log lacks: to a store one part after the other."""
         if self.settings.library:
-            self.add(parts_of_lines(lines), lambda answer: None)
+            self.add(parts_of_lines(lines), self.has_given_more)
             return
         sizes = itertools.accumulate(len(line) + 1 for line in lines)
         end = len(lines) if self.standby is None else sum(size <= limits.LONGEST_STORED for size in sizes)
         rest = lines[end:]
         self.give("\n".join(lines[:end]).encode("latin-1"), lambda answer: self.give_more(rest) if rest else None)
+
+    def has_given_more(self, answer):
+        """Says which of those lines can't be given, counted from the first."""
+        if answer.startswith("fault "):
+            self.voice.say("not_given", "what the subscribers' file has more than the log isn't given: %s" % answer.partition(" ")[2])
 
     # The end.
 
