@@ -186,7 +186,8 @@ class GivenToPhones(test_front_log.GivenToPhones):
         self.assertLess(count, len(lines))
         again = self.goes_on(running, head=self.head((), lines))
         again.until(lambda: b"given %d subscribers, 0 vectors" % (len(lines) - count) in again.said())
-        self.assertEqual(again.asks("show", lines[-1].split(" ")[1]), "state %s DEREGISTERED IDLE INACTIVE\n" % lines[-1].split(" ")[1])
+        imsi = lines[-1].split(" ")[1]
+        self.assertEqual(again.asks("show", imsi), "state %s DEREGISTERED IDLE INACTIVE\n" % imsi)
         self.assertEqual([line for _, line in further(again)], lines)
         self.assertEqual(again.stop()[0], 0)
 

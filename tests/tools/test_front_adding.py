@@ -402,8 +402,7 @@ class Standing(unittest.TestCase):
         words = ["--tcp", "--port", "0", "--resume", "--mme", "/bin/false"]
         status, told = said(["run", folder / "subscribers", self.log, *words])
         self.assertEqual(status, 2)
-        self.assertIn("log has lines of provisioning where they were given (`#+ `), which `mme play` skips: go on with --library, or "
-                      "with what `mme-front fill --head` makes of it", told)
+        self.assertIn(resuming.OF_LIBRARY % self.log, told)
 
     def test_used(self):
         """Where it isn't known which vectors were used, those count too that were given while it ran."""
