@@ -23,8 +23,8 @@ sys.dont_write_bytecode = True
 TOP = pathlib.Path(__file__).resolve().parent.parent.parent
 if __name__ == "__main__":
     sys.path[:1] = [str(TOP), str(TOP / "python")]
-from bench.etcds import MISSING, PROGRAM as ETCD, Members
-from reference import phones as PHONES
+from bench.etcds import MISSING, PROGRAM as ETCD, Members, free_port
+from reference import lte, phones as PHONES
 from tests.tools import fronted, test_front, test_front_etcd, test_front_keys, test_front_kills, test_front_log, test_front_sctp
 from tests.tools import tools
 from tests.tools.test_front_log import Talk, give, whole
@@ -190,6 +190,32 @@ class GivenToPhones(test_front_log.GivenToPhones):
         self.assertEqual(again.asks("show", imsi), "state %s DEREGISTERED IDLE INACTIVE\n" % imsi)
         self.assertEqual([line for _, line in further(again)], lines)
         self.assertEqual(again.stop()[0], 0)
+
+    def lacks_a_vector(self, phone, number):
+        """A phone that has left asks to attach, and has no vector."""
+        esm = lte.pdn_connectivity_request(1, 1, False)
+        phone.sends_first(self.station, number, lte.attach_request(1, lte.imsi_identity(phone.imsi), phone.capability, esm))
+        phone.owed_nas(b"\x07\x44\x11")
+        phone.owed(lte.release_command(phone.m, phone.b, lte.NORMAL_RELEASE))
+        phone.goes()
+
+    def test_reasons(self):
+        """The page says why a phone wasn't let in before it was given a vector, and goes on to tell after that."""
+        phone, port = self.phones[0], free_port()
+        withheld = self.lines_of(phone)[-1:]
+        running = fronted.Running(self, "--page", "127.0.0.1:%d" % port, head=self.head(withheld), program=fronted.LIBRARY)
+        talk = Talk(self, self.trace, running)
+        self.trace.set_up(self.station)
+        page = lambda: " ".join(re.sub("<[^>]*>", " ", test_front_etcd.Fronts.get(port, "/?imsi=" + phone.imsi).decode()).split())
+        for count in (1, 2):
+            phone.attaches(self.station, 2 * count)
+            phone.detaches()
+            self.lacks_a_vector(phone, 2 * count + 1)
+            talk.settle()
+            running.until(lambda: "no vector is left: the phone was given %d," % count in page())
+            if count == 1:
+                self.assertEqual(give(running, withheld[0] + "\n"), "given 0 subscribers, 1 vector\n")
+        self.assertEqual(running.stop()[0], 0)
 
     def test_followed(self):
         """Who follows the tunnels learns of a subscriber that is given."""
