@@ -510,12 +510,32 @@ class Gathered(tools.InFolder):
         last = len(self.trace.lines) - 1 - len(self.lines)
         withheld = [line for line in self.lines if line.split(" ")[1] == self.phones[1].imsi]
         status, printed, told = self.filled({last + place / 10: line for place, line in enumerate(withheld)})
+        self.check_otherwise(status, printed, told, request, 1)
+
+    def check_otherwise(self, status, printed, told, place, slot):
+        """A line of the trace is said to be answered otherwise, to a phone, by its place in what is printed."""
         self.assertEqual(status, 0)
         [line] = told.splitlines()
         self.assertRegex(line, r"^front: line \d+, as it is printed here, is answered otherwise than it was, to ")
         number = int(line.split(" ")[2].rstrip(","))
-        self.assertEqual(printed.splitlines()[number - 1], self.trace.text().splitlines()[request])
-        self.assertIn("IMSI " + self.phones[1].imsi, line)
+        self.assertEqual(printed.splitlines()[number - 1], self.trace.text().splitlines()[place])
+        self.assertIn("subscriber %d, IMSI %s" % (slot, self.phones[slot].imsi), line)
+
+    def test_no_vector(self):
+        """So was one that had no vector left, and is challenged now."""
+        phone, other = self.phones
+        other.attaches(self.station, 9)
+        for number in (1, 2):
+            phone.attaches(self.station, number)
+            phone.detaches()
+        esm, request = LTE.pdn_connectivity_request(1, 1, False), len(self.trace.lines)
+        phone.sends_first(self.station, 3, LTE.attach_request(1, LTE.imsi_identity(phone.imsi), phone.capability, esm))
+        phone.goes()
+        more = PHONES.Vector.made("more").words(phone.imsi)
+        self.lines.append(more)
+        self.trace.lines.insert(len(self.lines) - 1, more)
+        self.trace.say("tick 1")
+        self.check_otherwise(*self.filled({len(self.trace.lines) - 1 - len(self.lines): more}), request + 1, 0)
 
     def test_too_many(self):
         """A head that a program doesn't take isn't printed."""
