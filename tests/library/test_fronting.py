@@ -49,9 +49,10 @@ class Round(test_front.Round):
 
 
 def further(running, end=""):
-    """The lines of provisioning that were given, as a series of the log has them, each with the line before it that is an event."""
+    """The lines of provisioning that were given, as a series of the log has them, each with the line before it that is an event; what
+    a kill left of a line is none."""
     found, before = [], None
-    for line in whole(running, end).splitlines():
+    for line in whole(running, end).rpartition("\n")[0].splitlines():
         if line.startswith(runs.FURTHER):
             found.append((before, line.removeprefix(runs.FURTHER)))
         elif not line.startswith(("#", "tick")):
