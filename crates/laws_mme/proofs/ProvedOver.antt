@@ -404,4 +404,3 @@ module _ (splits : GoesOnOrRanOut) (stays : StaysInUse) (sounds : StaysSound) (c
         let context : g.context ≡ r.0 = same_Some g.context r.0 (sym g.kept ∙ r.1) in
         (r.0, r.1, subst (λ (c : Context). HasKeyOf c m) context g.key, r.2)) d.sent
         (gives y.setting y.solo item (used_now stays sounds clocks begun n slot x seen y u at).sound)
-

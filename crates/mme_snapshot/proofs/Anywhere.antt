@@ -43,6 +43,6 @@ read_anywhere f v os at rest m whole =
     let start : part_at f (place_of at os rest) ≡ part_at f (record { at = at; rest = bs ++ (pad (at + length bs) ++ rest) }) =
     ap (λ (l : List Bool). part_at f (record { at = at; rest = l })) text in
     let middle : part_at f (record { at = at; rest = bs ++ (pad (at + length bs) ++ rest) })
-        ≡ Ok (v, record { at = at + length bs + length (pad (at + length bs)); rest = rest }) =
+    ≡ Ok (v, record { at = at + length bs + length (pad (at + length bs)); rest = rest }) =
     ap (λ r. r >>= λ x. align_at x.1 >>= λ a. Ok (x.0, a.1)) read ∙ ap (λ r. r >>= λ a. Ok (v, a.1)) aligned in
     start ∙ middle ∙ ap (λ n. Ok (v, record { at = n; rest = rest })) place

@@ -279,8 +279,8 @@ module _ (w : World) (kept : IsKept w) (provisioned : AreProvisioned w.sight.pro
       let text : os ++ m ≡ h.version_octets ++ b =
       ap (λ (l : List ℕ). l ++ m) h.parts ∙ append_assoc h.version_octets (h.head_octets ++ (h.station_octets ++ h.count_octets)) m
       ∙ ap (λ (l : List ℕ). h.version_octets ++ l)
-        (append_assoc h.head_octets (h.station_octets ++ h.count_octets) m
-        ∙ ap (λ (l : List ℕ). h.head_octets ++ l) (append_assoc h.station_octets h.count_octets m)) in
+      (append_assoc h.head_octets (h.station_octets ++ h.count_octets) m
+      ∙ ap (λ (l : List ℕ). h.head_octets ++ l) (append_assoc h.station_octets h.count_octets m)) in
       let at1 = 0 + 8 * length h.version_octets in
       let at2 = at1 + 8 * length h.head_octets in
       let at3 = at2 + 8 * length h.station_octets in

@@ -99,4 +99,4 @@ made_world s ps o q shared slot p v network next profiles strangers subscribers 
       strangers = o.strangers;
       subscribers = ws;
     }) (subscribers ∙ ap (λ (n : Network). o.subscribers ++ subscriber_of n slot p v ∷ []) network
-      ∙ ap (λ n. o.subscribers ++ subscriber_of s.config.network n p v ∷ []) next)
+    ∙ ap (λ n. o.subscribers ++ subscriber_of s.config.network n p v ∷ []) next)

@@ -109,7 +109,7 @@ abbrev pub profiled_added : Option ℕ → Built → Value saved_subscriber → 
 profiled_added most b v p =
     if is_over most (b.hops + hops_of v) then Err faults.Work
     else unless_refused (refusal_of b.world.strangers (length b.world.subscribers) v)
-        (record { world = with_subscriber b.world p v; hops = b.hops + hops_of v })
+    (record { world = with_subscriber b.world p v; hops = b.hops + hops_of v })
 
 abbrev pub subscriber_added : Option ℕ → Built → Value saved_subscriber → Result Built RestoreFault
 subscriber_added most b v = profile_in b.world v >=> profiled_added most b v

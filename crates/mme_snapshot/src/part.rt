@@ -68,8 +68,13 @@ impl SavedOctets {
         ensures err { OnErr result (self.new ≡ self.old) }
     {
         if self.octets.capacity() - self.octets.len() < more.len() {
-            let mut roomier =
-                Vec::with_capacity(alloc, self.octets.len().saturating_mul(2).saturating_add(more.len()))?;
+            let mut roomier = Vec::with_capacity(
+                alloc,
+                self.octets
+                    .len()
+                    .saturating_mul(2)
+                    .saturating_add(more.len()),
+            )?;
             roomier.extend_from_slice(self.octets.as_slice())?;
             overwrite(&mut self.octets);
             self.octets = roomier;

@@ -8,14 +8,17 @@ ghost use Rattle.snapshot_formats.specs.Heads.{typed_saved_head, typed_saved_net
 ghost use Rattle.snapshot_formats.specs.Subscribers.{typed_saved_subscriber};
 ghost use Rattle.mme_snapshot.specs.Images.{hops_of, is_held_by, is_label, is_placed, is_timed, named_head, named_kept, named_network, named_profile, named_station, named_stranger};
 
-use identity_slots::{AssociationId, COUNTERS, Profile, Slot, StationNumber, number_in, station_in};
+use identity_slots::{
+    AssociationId, COUNTERS, Profile, Slot, StationNumber, number_in, station_in,
+};
 use mme_core::Config;
 use mme_tables::Strangers;
 use mme_types::{Apn, Connection, NasOctets, Network, StationState};
 use nas_elements::{Imsi, timers};
 use per_bits::Whole;
 use snapshot_formats::{
-    SavedHead, SavedNetwork, SavedRadio, SavedStation, SavedStrangerState, SavedSubscriber, SavedWaiting,
+    SavedHead, SavedNetwork, SavedRadio, SavedStation, SavedStrangerState, SavedSubscriber,
+    SavedWaiting,
 };
 use std::alloc::{AllocError, Global};
 use stranger_machine::{KeptEntry, Stranger};
@@ -156,19 +159,17 @@ fn is_held_by(strangers: &Strangers, id: AssociationId, slot: Slot) -> bool
 }
 
 /// Whether the id of a connection is the slot's own, or that of a stranger whom the slot holds.
-pub(crate) fn is_placed(
-    strangers: &Strangers,
-    slot: Slot,
-    connection: Option<Connection>,
-) -> bool
+pub(crate) fn is_placed(strangers: &Strangers, slot: Slot, connection: Option<Connection>) -> bool
     ensures placed { result ≡ is_placed strangers.now.strangers slot connection }
     ensures numbered { IfSome connection (λ k. k.enb_ue_id < enb_ue_ids) }
 {
     let Some(connection) = connection else {
         return true;
     };
-    let made =
-        AssociationId::of_stranger(connection.station.get(), connection.enb_ue_id.get() as u32);
+    let made = AssociationId::of_stranger(
+        connection.station.get(),
+        connection.enb_ue_id.get() as u32,
+    );
     connection.id.get() / COUNTERS == slot.get()
         || connection.id == made && is_held_by(strangers, connection.id, slot)
 }
