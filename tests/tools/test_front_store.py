@@ -18,6 +18,7 @@ DONE = ("registered phones that were looked for after a beginning", "challenges"
         "radio keys handed to stations", "PATH SWITCH REQUEST", "SERVICE REQUEST", "TRACKING AREA UPDATE REQUEST",
         "phones that came back and were served", "messages that were sent again without the key")
 SOON = 20, 200  # messages after which a leader ends
+SEEDS = "7", "8", "9", "10"  # of storms at a changed front
 USED_TWICE = r"COUNT \d+ was used before|was handed out before|was sent before"
 
 
@@ -57,9 +58,17 @@ class Storms(unittest.TestCase):
         self.assertEqual((storm.counted["beginnings"], storm.counted["members that were killed and came back"]), (4, 3), said)
 
     def finds(self, *changes):
-        """Whether a storm finds what is used twice, where a front is changed."""
-        storm, said = self.blown("--runs", "30", "--ends", "rest", "--until", USED_TWICE, changes=(*HURRIED, *changes))
-        self.assertRegex("\n".join(storm.watch.violations), USED_TWICE, said)
+        """A storm finds what is used twice, where a front is changed: one of a few, since fronts that read turns of two leaders may
+        all end before that."""
+        told = []
+        for seed in SEEDS:
+            self.members.forget()
+            words = "--runs", "30", "--ends", "rest", "--until", USED_TWICE, "--seed", seed
+            storm, said = self.blown(*words, changes=(*HURRIED, *changes))
+            if storm.has_found():
+                return
+            told.append(said)
+        self.fail("nothing is used twice:\n" + "\n".join(told))
 
     def test_unheld(self):
         """Answers that go out before their turn stands are found."""
