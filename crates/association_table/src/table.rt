@@ -26,7 +26,12 @@ pub(crate) fn association_id(association: Association) -> u32
     association.id
 }
 
-/// The associations by id. Contracts see the entries by rising id, and for how many more there is room.
+/// A map from id to owner, station and eNB UE S1AP ID: `listed` answers those of a station that some item of a list matches, and
+/// `close_listed` closes just them. If there is room, `reserve` isn't refused, nor `open` for lack of memory; `open_reserved`,
+/// `close` and `clear_station` never are.
+///
+/// Contracts see the entries by rising id, and for how many more there is room, which a refused `reserve` or `open` may leave more
+/// of.
 #[derive(Drop)]
 pub struct Associations {
     slab: Slab<Held>,

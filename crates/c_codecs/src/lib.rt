@@ -1,5 +1,7 @@
-//! Messages and keys for harnesses: what octets are as a message of S1AP or NAS, MACs and derived keys, each from arguments as they
-//! come from outside. It calls the codecs and says what they say; nothing here knows C.
+//! Messages and keys for harnesses, from arguments as they come from outside: what octets are, and the keys, are those of the
+//! definitions of S1AP, NAS and `eps_keys`.
+//!
+//! It calls the codecs and says what they say; nothing here knows C.
 #![tactic(auto)]
 
 mod fault;

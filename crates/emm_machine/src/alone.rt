@@ -9,8 +9,9 @@ use mme_types::{Network, SharedNetwork};
 use std::alloc::{AllocError, Global};
 
 impl Subscriber {
-    /// A subscriber who was never seen, with a network of its own that equals this one, and with its vectors in the order in which
-    /// they are taken.
+    /// As `new`, with a network of its own.
+    ///
+    /// That equals this one; the vectors are in the order in which they are taken.
     pub fn alone(
         alloc: Global,
         network: &Network,

@@ -25,8 +25,9 @@ pub fn sent_counts_are_fresh()
     accepted_is_fresh();
 }
 
-/// The same holds of uplink counts that are accepted: each is above the last that the context accepted, or of a vector that may yet
-/// become a context; each pair of vector and count is above all earlier ones, so none is accepted twice (TS 24.301 clause 4.4.3.2).
+/// Over every run from a state in use, each uplink count that is accepted is above the last that the context accepted, or of a
+/// vector that may yet become a context; each pair of vector and count is above all earlier ones, so none is accepted twice (TS
+/// 24.301 clause 4.4.3.2).
 pub fn accepted_counts_are_fresh()
     ensures ahead { AcceptsAhead }
     ensures once { AcceptsOnce }

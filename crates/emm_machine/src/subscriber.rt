@@ -196,7 +196,9 @@ fn spent(alloc: Global, solo: &Solo) -> Result<Box<Draft>, AllocError>
     Ok(draft)
 }
 
-/// A subscriber; a contract sees what no step changes of it, and the state of its machine.
+/// A subscriber; what these calls answer are parts of its state and of what no step changes, and a copy is equal.
+///
+/// A contract sees what no step changes of it, and the state of its machine.
 #[derive(Drop)]
 pub struct Subscriber {
     setting: Setting,
@@ -221,7 +223,7 @@ impl Model for Subscriber {
 }
 
 impl Subscriber {
-    /// A subscriber who was never seen, with its vectors in the order in which they are taken.
+    /// A subscriber who was never seen, with this network, profile and vectors.
     pub fn new(
         alloc: Global,
         network: &SharedNetwork,
@@ -237,7 +239,7 @@ impl Subscriber {
         Subscriber::at_rest(alloc, network, slot, profile, vectors.into_kept())
     }
 
-    /// A subscriber whose phone isn't here and has no context, with its vectors, of which those are taken that are spent.
+    /// A subscriber with some vectors spent, whose phone isn't here and has no context.
     #[tactic(auto, using(crate::proofs::Spending::are_spent_at_rest))]
     pub fn at_rest(
         alloc: Global,
@@ -296,8 +298,9 @@ impl Subscriber {
         self.vectors.get(place)
     }
 
-    /// What an event would leave and send, in a box, so that it stands in one place until it is settled: in the spare one, where
-    /// there is one. Nothing changes.
+    /// Answers the step of an event without taking it.
+    ///
+    /// It stands in a box until it is settled: in the spare one, where there is one. Nothing changes.
     #[tactic(auto, using(crate::proofs::Spending::are_unspent))]
     pub fn prepare(
         &self,
@@ -320,10 +323,11 @@ impl Subscriber {
         )
     }
 
-    /// The state is that of a step that was prepared, whose box is kept; answers the box that was kept until now, with the state
-    /// until now and the room for what is sent. Takes no memory. What was sent is to be taken out before, since it would stay in
-    /// memory with that box. The secrets of a vector that is spent are overwritten, and so are the keys of a context that goes on
-    /// no longer.
+    /// Takes a prepared state, or any that asks for no spent vector (`onward`), without memory, and answers the box of the state
+    /// before, without its context if that has ended (`left_for`).
+    ///
+    /// What was sent is to be taken out before, since it would stay in memory with that box. The secrets of a vector that is spent
+    /// are overwritten, and so are the keys of a context that goes on no longer.
     #[tactic(auto, using(crate::proofs::Spending::are_spent_on))]
     pub fn settle(&mut self, draft: Box<Draft>) -> Box<Draft>
         requires onward { IsOnward self.old.solo draft.value.solo }
@@ -340,7 +344,8 @@ impl Subscriber {
         spare
     }
 
-    /// One event: what is sent. Where memory is refused nothing changes.
+    /// One event: answers the messages of `solo_step`, in order, each with its station, its octets and what its NAS message is
+    /// protected under, and leaves that step's state. Where memory is refused nothing changes.
     pub fn step(&mut self, event: &SoloEvent, world: &EnbWorld) -> Result<Answers, AllocError>
         ensures answers { IfOk result
             (λ answers. answers ≡ (solo_step self.old.setting self.old.solo (item_of event.now world.now)).sent) }
@@ -355,8 +360,10 @@ impl Subscriber {
         Ok(sent)
     }
 
-    /// One vector more, after all others. Full where 64 aren't spent or 2^62 were given, NoMemory where room was refused, in this
-    /// order; then nothing changed, and the secrets of the vector are overwritten.
+    /// One vector more, after all others, or nothing changes: `Full` exactly where 64 are unspent or 2^62 were given
+    /// (`is_stocked`).
+    ///
+    /// NoMemory where room was refused. The secrets of a refused vector are overwritten.
     #[tactic(auto, using(crate::proofs::Spending::are_spent_given, crate::proofs::Spending::is_full))]
     pub fn give(&mut self, alloc: Global, vector: Vector) -> Result<(), ProvisionFault>
         ensures full { (result ≡ Err Full) ↔ (is_stocked self.old ≡ true) }
@@ -370,7 +377,9 @@ impl Subscriber {
         Ok(())
     }
 
-    /// As many ticks, each of which ends no countdown and so sends nothing; takes no memory.
+    /// Requires that each countdown has more than so many ticks left, and leaves what these leave (`solo_aged`), without memory.
+    ///
+    /// No countdown ends, so nothing is sent.
     #[tactic(auto, using(crate::specs::TickLaws::ticks_are_aged, crate::specs::TickLaws::spent_aged))]
     pub fn pass(&mut self, ticks: u64)
         requires { AreAbove ticks (countdowns self.old.solo) }
@@ -389,8 +398,10 @@ impl Subscriber {
         self.state.solo.context.is_some()
     }
 
-    /// Whether a message leaves the subscriber as it is and nothing is sent for it: UE CONTEXT RELEASE COMPLETE, and on the
-    /// connection what a station only tells. Takes no memory.
+    /// Whether a message changes and sends nothing (`still`), by a look at two or three fields: so UE CONTEXT RELEASE COMPLETE, and
+    /// what a station only reports on the phone's connection.
+    ///
+    /// Takes no memory.
     pub fn is_still(&self, message: &UeMessage<&[u8]>) -> bool
         ensures { result ≡ still self.now.solo (Message (message_lists message.now)) }
     {

@@ -8,8 +8,11 @@ use crate::solo::{Repeat, Solo};
 use mme_types::{Answers, Mark, NasOctets};
 use std::alloc::{AllocError, Global};
 
-/// A step under way: the state so far, what is sent so far, what an uplink message was accepted under, and whether a message had no
-/// written form, and so isn't sent.
+/// A step under way. Each action is as defined, or says instead that the downlink counts are spent; one that protects a message
+/// (`protect`, `protect_and_await`, `set_up_with`) says so whatever memory there is.
+///
+/// It has the state so far, what is sent so far, what an uplink message was accepted under, and whether a message had no written
+/// form, and so isn't sent.
 #[derive(Drop)]
 pub struct Draft {
     pub solo: Solo,

@@ -50,8 +50,11 @@ pub enum StationAct<'a> {
     },
 }
 
-/// A simulated station: what never changes of it, whether it is set up, and the associations that it holds, by their two
-/// numbers.
+/// A simulated station, whose calls are as defined. If there is nothing to send, since the act can't be done or its NAS message is
+/// too long, that is the answer whatever memory there is. Setting up always answers an S1 SETUP REQUEST that is decoded as the one
+/// with its PLMN, macro id and TAC, DRX 128 and no name.
+///
+/// It has what never changes of it, whether it is set up, and the associations that it holds, by their two numbers.
 #[derive(Drop)]
 pub struct Station {
     alloc: Global,

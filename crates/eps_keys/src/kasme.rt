@@ -95,7 +95,9 @@ impl Kasme {
         self.is_hashed = other.is_hashed;
     }
 
-    /// Zeros stand in place of the key and of what was hashed of it; takes no memory.
+    /// Leaves a key of zeros, of which nothing is hashed.
+    ///
+    /// Takes no memory.
     pub fn forget(&mut self)
         ensures { self.new ≡ replicate 32 0 }
     {
@@ -150,7 +152,7 @@ impl Kasme {
         NextHop::of_number(self.mac(&next_hop_input(previous.octets())), number)
     }
 
-    /// The next hop key NH with a number, from 1 on, in the chain of KeNB (TS 33.401, A.4).
+    /// The next hop key NH with a number, from 1 on, in the chain of a KeNB (TS 33.401, A.4).
     pub fn hop_at(&self, first: &Kenb, number: u64) -> NextHop
         requires { 1 ≤ number }
         ensures { result ≡ hop_at number self.now first.now }
@@ -162,7 +164,7 @@ impl Kasme {
         hop
     }
 
-    /// The uplink NAS COUNT that a KeNB was derived of under this key, which is derived of it once more; none where it wasn't.
+    /// The uplink NAS COUNT that a KeNB was derived with, only if deriving it once more gives the same key; else none.
     pub fn count_of(&self, key: &Kenb) -> Option<u32>
         ensures { IfSome result (λ count. key.now ≡ kenb self.now count) }
     {
@@ -174,7 +176,9 @@ impl Kasme {
         Some(count)
     }
 
-    /// The number of a next hop in the chain of a KeNB, which is derived once more up to it; none where it isn't of this chain.
+    /// The number of a next hop in the chain of a KeNB, on the terms of `count_of`.
+    ///
+    /// That is derived once more up to it; none where it isn't of this chain.
     pub fn number_of(&self, first: &Kenb, hop: &NextHop) -> Option<u64>
         ensures { IfSome result (λ number. (1 ≤ number) × (hop.now ≡ hop_at number self.now first.now)) }
     {

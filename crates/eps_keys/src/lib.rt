@@ -1,9 +1,8 @@
-//! Keys and integrity of EPS NAS signalling: AES-128, CMAC, 128-EIA2, HMAC-SHA-256 and the key
-//! derivations.
+//! Keys and integrity of EPS NAS signalling. Each call equals its function on whole lists, also under a key that is kept expanded
+//! (`MacKey`) or hashed (`Kasme`), or is a copy. None is refused or takes memory.
 //!
-//! No call is refused, and none takes memory. Each is proved equal to its function on whole lists in `specs/`. No proof speaks of
-//! time, but AES, CMAC and [`same_octets`] have no branch and no address in memory that depends on a key or an octet of a
-//! message: only lengths steer them.
+//! No proof speaks of time, but AES, CMAC and [`same_octets`] have no branch and no address in memory that depends on a key or an
+//! octet of a message: only lengths steer them.
 #![tactic(auto)]
 
 mod aes;

@@ -29,7 +29,9 @@ pub enum BearerState {
     Active,
 }
 
-/// The default bearer of one subscriber, and the connectivity request that was taken.
+/// The default bearer of one subscriber. Each call is as defined; only those that write octets take memory.
+///
+/// It has the connectivity request that was taken.
 #[derive(Clone, Copy)]
 pub struct Bearer {
     state: BearerState,

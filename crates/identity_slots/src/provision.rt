@@ -70,7 +70,9 @@ fn reserve_one(
     Ok(())
 }
 
-/// The subscribers by slot: profiles with an IMSI and an address of their own each, and a list of vectors for each.
+/// The IMSI, slot and id maps, with distinct IMSIs and addresses, and each slot's vectors in order.
+///
+/// These are the subscribers by slot: a profile and a list of vectors for each.
 #[derive(Drop)]
 pub struct Provision {
     profiles: Vec<Profile>,
@@ -201,8 +203,9 @@ impl Provision {
         Ok(slot)
     }
 
-    /// The last subscriber, who has no vectors, is provisioned no longer: for who added one and was refused what else it needs. Takes
-    /// no memory.
+    /// Undoes the last `add`.
+    ///
+    /// That subscriber has no vectors: for who added one and was refused what else it needs. Takes no memory.
     pub fn take_back(&mut self)
         requires last { 0 < length self.old.profiles }
         requires none { vectors_at (length self.old.profiles - 1) self.old.vectors ≡ [] }
@@ -235,7 +238,9 @@ impl Provision {
         }
     }
 
-    /// Takes the vectors of a subscriber that is provisioned, to be kept elsewhere; it has none here from then on. Takes no memory.
+    /// Hands on the vectors of a slot.
+    ///
+    /// It has none here from then on. Takes no memory.
     pub fn take_vectors(&mut self, slot: Slot) -> Vectors
         requires { slot < length self.old.profiles }
         ensures taken { slice_get self.old.vectors slot ≡ Some result }

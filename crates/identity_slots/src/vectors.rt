@@ -223,8 +223,10 @@ impl Clone for GivenVectors {
     }
 }
 
-/// The vectors of a subscriber, the first of which are spent: of these XRES and KASME are overwritten, and no call answers them.
-/// A contract sees all as they were given, and how many are spent.
+/// Vectors as they were given, the first of which are spent: that XRES and KASME of these are overwritten is an invariant
+/// (`IsWindow`).
+///
+/// No call answers those. A contract sees all as they were given, and how many are spent.
 #[derive(Drop)]
 pub struct KeptVectors {
     // those from the place `base` on: the ones before it are spent, and aren't kept any more
@@ -247,7 +249,9 @@ impl Model for KeptVectors {
 }
 
 impl KeptVectors {
-    /// Vectors of which the first `spent` are gone: for each of them stands this one, and the rest is unspent. Takes no memory.
+    /// A list whose first vectors are spent already, with a given husk in the place of each.
+    ///
+    /// Takes no memory.
     pub fn resumed(spent: usize, husk: &Vector, rest: Vectors) -> KeptVectors
         requires { spent + length rest < 2 ^ 63 }
         ensures { result ≡ record { given = replicate spent husk.now ++ rest; spent = spent } }
@@ -276,7 +280,9 @@ impl KeptVectors {
         self.spent
     }
 
-    /// The vector at a place, from 0, that isn't spent, if there is one. Takes no memory.
+    /// The vector that was given at a place, from 0, if there is one; requires that none from there on is spent.
+    ///
+    /// Takes no memory.
     pub fn get(&self, place: usize) -> Option<&Vector>
         requires unspent { self.now.spent ≤ place }
         ensures value { option_map (λ v. v.now) result ≡ slice_get self.entry.now.given place }
@@ -293,9 +299,10 @@ impl KeptVectors {
         given - self.spent >= VECTORS || given >= GIVEN
     }
 
-    /// One vector more, at the end. Full where 64 aren't spent or 2^62 were given, NoMemory where room was refused, in this order;
-    /// then nothing changed, and the secrets of the vector are overwritten. Where the others move, those that are spent go, and no
-    /// secret stays where it was.
+    /// Adds a vector at the end, or changes nothing.
+    ///
+    /// Full where 64 aren't spent or 2^62 were given, NoMemory where room was refused, in this order; the secrets of the vector are
+    /// then overwritten. Where the others move, those that are spent go, and no secret stays where it was.
     pub fn give(&mut self, alloc: Global, mut vector: Vector) -> Result<(), ProvisionFault>
         ensures full { (result ≡ Err Full) ↔ IsStocked self.old }
         ensures fault { IfErr result (λ fault. fault ≢ NoMemory → fault ≡ Full) }
@@ -327,7 +334,9 @@ impl KeptVectors {
         Ok(())
     }
 
-    /// The vectors before a place are spent too, and their secrets are overwritten. Takes no memory.
+    /// Spends the vectors before a place: nothing that was given changes, only how many are spent.
+    ///
+    /// Their secrets are overwritten. Takes no memory.
     pub fn spend_before(&mut self, place: usize)
         ensures { self.new ≡ spent_before place self.old }
     {

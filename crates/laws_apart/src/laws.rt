@@ -40,7 +40,7 @@ pub fn ids_stay_apart()
     connections_come_so();
 }
 
-/// So no two subscribers have one id, and none has that of a stranger that waits (TS 36.413 clause 9.2.3.3).
+/// No two subscribers have one id, and none has that of a stranger that waits (TS 36.413 clause 9.2.3.3).
 pub fn no_two_share_an_id()
     ensures two { NoTwoShare }
     ensures waiting { NoneHasWaiting }

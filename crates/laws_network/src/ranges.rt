@@ -21,8 +21,8 @@ pub fn runs_are_in_range()
     what_stations_tell_is_in_range();
 }
 
-/// At every step of such a run a slot's setting, its item and the states before and after it are in range: so the laws of one
-/// subscriber's machine apply, and each message that it builds is sent; and so over the slot's items alone.
+/// At every step of a run in range a slot's setting, its item and the states before and after it are in range: so the laws of
+/// one subscriber's machine apply, and each message that it builds is sent; and so over the slot's items alone.
 pub fn steps_are_in_range()
     ensures next { StepsAreInRange }
     ensures alone { AloneStepsAreInRange }
@@ -32,7 +32,7 @@ pub fn steps_are_in_range()
     what_stations_tell_is_in_range();
 }
 
-/// Over such a run whoever has proved itself was sent the AUTHENTICATION REQUEST by its vector (TS 24.301 clause 5.4.2.2).
+/// Over a run in range whoever has proved itself was sent the AUTHENTICATION REQUEST by its vector (TS 24.301 clause 5.4.2.2).
 pub fn challenges_are_sent()
     ensures { ChallengesAreSent }
 {
@@ -41,8 +41,8 @@ pub fn challenges_are_sent()
     proved_were_challenged();
 }
 
-/// Over such a run whatever a stranger is told is sent: IDENTITY REQUEST, a refusal, the release of its association, and what
-/// answers a message with the id of nobody or from elsewhere (TS 24.301 clause 5.4.4, TS 36.413 clause 10.6).
+/// Over a run in range whatever a stranger is told is sent: IDENTITY REQUEST, a refusal, the release of its association, and
+/// what answers a message with the id of nobody or from elsewhere (TS 24.301 clause 5.4.4, TS 36.413 clause 10.6).
 pub fn strangers_are_told()
     ensures begins { BeginnersAreTold }
     ensures sends { SendersAreAnswered }

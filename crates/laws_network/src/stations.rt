@@ -28,7 +28,7 @@ pub fn everybody_is_placed()
     what_stations_tell_is_in_range();
 }
 
-/// So what is sent for subscribers and strangers goes to stations that are set up before and after the event, and what is sent for
+/// What is sent for subscribers and strangers goes to stations that are set up before and after the event, and what is sent for
 /// a station goes to it while it is connected.
 pub fn only_ready_stations_are_spoken_to()
     ensures { SpeaksToTheReady }

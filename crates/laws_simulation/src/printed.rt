@@ -22,7 +22,7 @@ pub fn no_run_prints_nothing()
 {}
 
 /// In what a trace prints, the lines of `sN` are what slot N's one machine sends over its projection of the trace, each with its
-/// station and its octets, in order; a slot that isn't provisioned has none. So of lines that any MME is given.
+/// station and its octets, in order; a slot that isn't provisioned has none. The same holds of lines that any MME is given.
 pub fn slots_are_printed()
     ensures trace { SlotIsPrinted }
     ensures absent { NobodyIsPrinted }
@@ -33,7 +33,7 @@ pub fn slots_are_printed()
     ids_are_apart();
 }
 
-/// So the lines of `xE.B` are those of the machine of the stranger with the number B at station E, over what the trace has for it.
+/// The lines of `xE.B` are those of the machine of the stranger with the number B at station E, over what the trace has for it.
 pub fn strangers_are_printed()
     ensures trace { StrangerIsPrinted }
     ensures mme { StrangerIsPrintedFrom }
@@ -45,7 +45,7 @@ pub fn strangers_are_printed()
     what_stations_tell_is_in_range();
 }
 
-/// So the lines of `eE` are those that station E's own events lead to.
+/// The lines of `eE` are those that station E's own events lead to.
 pub fn stations_are_printed()
     ensures trace { StationIsPrinted }
     ensures mme { StationIsPrintedFrom }

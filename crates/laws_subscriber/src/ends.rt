@@ -31,8 +31,8 @@ pub fn idle_phones_are_forgotten()
     ensures all { AllElseEnds }
 {}
 
-/// The same holds over every list of items in which the phone says nothing, no data comes for it and its subscription stays,
-/// whatever else happens.
+/// Over every list of items in which the phone says nothing, no data comes for it and its subscription stays, a procedure is over
+/// within its most ticks, and a phone that wasn't registered and connected is deregistered within 3,510 ticks.
 pub fn silent_phones_end()
     ensures procedure { SilentEnds }
     ensures forgotten { SilentIsForgotten }

@@ -28,8 +28,9 @@ pub struct Out {
     pub octets: SentOctets,
 }
 
-/// What is sent at one event, in order: for stations, strangers and subscribers, no message longer than 16,388 octets; a contract
-/// sees the list.
+/// The messages of an output in order, each with its owner, none longer than 16,388 octets; `clear` empties it.
+///
+/// A contract sees the list.
 #[derive(Drop)]
 pub struct Outs {
     items: Vec<Out>,

@@ -396,8 +396,9 @@ fn prepare_everyone<'a>(
     }
 }
 
-/// What is to become of those whom an event goes to, worked out on copies; what they send stands after what is sent so far, or the
-/// first of it, where this is refused.
+/// Works out what becomes of those whom an event reaches, and adds what their machines send to the output, strangers' by id, then
+/// subscribers' by slot. Nobody has changed yet. If memory is refused, the first of these messages have been added, in this order
+/// (`SendsSome`).
 pub fn prepare<'a>(
     alloc: Global,
     provision: &Provision,

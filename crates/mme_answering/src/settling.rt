@@ -119,8 +119,9 @@ fn tick(owners: &mut Owners, due: Vec<AssociationId>, stepped: Vec<Stepped>)
     owners.tick(due, stepped);
 }
 
-/// Strangers and subscribers are what was prepared. Room for countdowns, for associations and for a stranger comes first; refused,
-/// all are as they were.
+/// Leaves the prepared ones; if memory is refused, all are as they were.
+///
+/// Room for countdowns, for associations and for a stranger comes first.
 pub fn settle(owners: &mut Owners, prepared: Prepared) -> Result<(), AllocError>
     requires fits { IsFor prepared owners.old.strangers owners.old.subscribers }
     requires apart { IsApart prepared owners.old.strangers owners.old.subscribers }

@@ -28,8 +28,10 @@ pub enum CommandFault {
     NoMemory,
 }
 
-/// What the words of a command line ask for. Usage only where they ask for nothing that the program does, or for help; NoMemory
-/// where a growth of memory was refused.
+/// What the words of a command line ask for, only if nothing is wrong with them; if they ask for `play` or `sim`, it is refused for
+/// lack of memory alone.
+///
+/// Usage only where they ask for nothing that the program does, or for help; NoMemory where a growth of memory was refused.
 pub fn command<'a>(alloc: Global, words: &'a [&'a str]) -> Result<Choice<'a>, CommandFault>
     ensures asked { IfOk result (λ choice. asked_of (map (λ w. w.now) words.entry.now) ≡ Some (choice_of choice)) }
     ensures right { OnOk result (wrong_in (map (λ w. w.now) words.entry.now) ≡ []) }

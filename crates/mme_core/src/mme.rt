@@ -126,7 +126,7 @@ pub(crate) struct Ready {
 }
 
 impl Mme {
-    /// An MME whose stations are all down, and whose subscribers were never seen.
+    /// An MME whose stations are down, whose strangers are closed and whose subscribers were never seen.
     pub fn new(alloc: Global, config: Config, provision: Provision) -> Result<Mme, AllocError>
         ensures { IfOk result (λ m. m ≡ fresh_world config provision) }
     {
@@ -160,14 +160,18 @@ impl Mme {
         }
     }
 
-    /// The slot of an IMSI, if it is provisioned. Takes no memory.
+    /// The slot of an IMSI, none exactly if it isn't provisioned.
+    ///
+    /// Takes no memory.
     pub fn slot_of_imsi(&self, imsi: Imsi) -> Option<Slot>
         ensures { result ≡ slot_of_imsi imsi self.now.sight.profiles }
     {
         self.surroundings.slot_of_imsi(imsi)
     }
 
-    /// The states of a slot, if it is provisioned. Takes no memory.
+    /// The states of a slot, none exactly if it isn't provisioned.
+    ///
+    /// Takes no memory.
     pub fn states(&self, slot: Slot) -> Option<States>
         ensures value { result ≡ states_at slot self.now }
         ensures none { IsNone result ↔ (length self.now.sight.profiles ≤ slot) }
@@ -175,10 +179,10 @@ impl Mme {
         self.owners.states(slot)
     }
 
-    /// What always holds: the strangers' ids rise and those that wait have ticks of T3470 left, there are 128 stations and as many
-    /// subscribers as are provisioned, no vector of a context that stands can become one again, each subscriber's context is the
-    /// vector at its place, of its countdowns that of its phase runs alone, and no two phones share an association's id: in the
-    /// list of all associations, of subscribers and of strangers that wait, each id stands once.
+    /// What always holds (`IsKept`): the strangers' ids rise, there are 128 stations and as many subscribers as profiles, each with
+    /// its profile and the MME's network, each waiting stranger has ticks of T3470 left, no vector of a standing context can become
+    /// one again, and each subscriber's state is sound, with the countdown of its phase alone. And no two phones share an
+    /// association's id (`AreApart`): each stands once in the list of all associations.
     pub fn well_kept(&self)
         ensures strangers { Rising known_id self.now.strangers }
         ensures stations { length self.now.sight.stations ≡ 128 }
@@ -193,9 +197,12 @@ impl Mme {
         let _ = &self.surroundings;
     }
 
-    /// One event: what is sent, or why it is refused. A refused event leaves the MME as it was. No message is longer than 16,388
-    /// octets. Want of memory is the fault of no event that is refused for another cause. A tick that ends nobody's countdown is
-    /// passed at once.
+    /// One event: answers exactly its whole output (`reply`), in the order of owners, and leaves what `world_after` says; or
+    /// answers the `StepFault` that is due, or lack of memory, and changes nothing. An event that is refused (the station is down,
+    /// or up already, the clock is spent, nobody has the IMSI) has that fault whatever memory there is (`fault`). No message is
+    /// longer than 16,388 octets (`short`).
+    ///
+    /// A tick that ends nobody's countdown is passed at once.
     pub fn step(&mut self, event: &Event<'_>) -> Result<Outs, StepFault>
         ensures reply { IfOk result (λ outs. reply self.old event.now ≡ Ok outs) }
         ensures after { OnOk result (self.new ≡ world_after self.old event.now) }
@@ -214,10 +221,14 @@ impl Mme {
         }
     }
 
-    /// Events in order, each by `step`; room for all replies is made first, and a refused run has taken no event.
-    /// Each event that is refused for another cause than memory has that fault for its reply.
-    /// In the replies each station, stranger and slot has what its machine alone sends over its own inputs, whatever else the
-    /// list holds, and nothing else is sent; and each is in the state of its machine.
+    /// Events in order, each by `step`, from any state: of every owner at once what `laws_mme::runs` says, of subscribers by
+    /// `told`, `states`, `each_states` (EMM, ECM, ESM), `absent`, `fresh`, `guarded` and `ends`, of strangers by `strangers` and
+    /// `stranger_states`, of stations by `stations` and `station_states`. By `order`, the station's outputs stand first, then
+    /// strangers' by id, then subscribers' by slot, and nothing else is sent. A refused event has its fault whatever memory there
+    /// is (`faults`).
+    ///
+    /// Room for all replies is made first, and a refused run has taken no event. Each event that is refused for another cause than
+    /// memory has that fault for its reply.
     pub fn run(&mut self, events: &[Event]) -> Result<Vec<Result<Outs, StepFault>>, AllocError>
         ensures count { IfOk result (λ rs. length rs.items ≡ length events.now) }
         ensures replies { IfOk result (λ rs. replies_given rs.items ≡ replies self.old (events_taken events.now rs.items)) }
@@ -273,8 +284,9 @@ impl Mme {
         Ok(replies)
     }
 
-    /// What an event sent is given back, and its room is used again: zeros stand in place of its octets before these are freed,
-    /// since some carry a key. Takes no memory.
+    /// Takes what an event sent, for its room, and doesn't change the MME.
+    ///
+    /// Zeros stand in place of its octets before these are freed, since some carry a key. Takes no memory.
     pub fn take_back(&mut self, sent: Outs)
         ensures { self.new ≡ self.old }
     {

@@ -30,7 +30,7 @@ pub struct MmeParts<'a> {
 }
 
 impl Mme {
-    /// What it is made of.
+    /// Lends what an MME is made of.
     pub fn parts<'a>(&'a self) -> MmeParts<'a>
         ensures config { result.config.now ≡ self.entry.now.sight.config }
         ensures clock { result.clock ≡ self.entry.now.sight.clock }
@@ -50,7 +50,9 @@ impl Mme {
         }
     }
 
-    /// The MME of these parts, of which holds what always holds of an MME. Refused for memory alone.
+    /// The MME of parts for which `IsKept` and `AreApart` hold.
+    ///
+    /// Refused for memory alone.
     pub fn of_parts(
         alloc: Global,
         config: Config,

@@ -16,8 +16,10 @@ use laws_subscriber::{clocks_are_kept, soundness_is_kept};
 use mme_owners::Owners;
 
 impl Mme {
-    /// A further subscriber without vectors, on the next slot. RepeatedImsi or RepeatedAddress where a slot has its IMSI or its
-    /// address, Full where every slot is taken, NoMemory where room was refused, in this order; then the MME is as it was.
+    /// A further subscriber without vectors, on the next slot; nothing else changes.
+    ///
+    /// RepeatedImsi or RepeatedAddress where a slot has its IMSI or its address, Full where every slot is taken, NoMemory where
+    /// room was refused, in this order; then the MME is as it was.
     pub fn add(&mut self, profile: Profile) -> Result<Slot, ProvisionFault>
         ensures refused { IfSome (add_fault profile self.old.sight.profiles) (λ fault. result ≡ Err fault) }
         ensures not_refused { IfNone (add_fault profile self.old.sight.profiles) (IfErr result (λ fault. fault ≡ NoMemory)) }
@@ -31,8 +33,10 @@ impl Mme {
         self.surroundings.add(&mut self.owners, profile)
     }
 
-    /// One vector more for the subscriber of a slot, after all others. Full where 64 of its vectors aren't spent or 2^62 were
-    /// given, then NoMemory where room was refused; then the MME is as it was, and the secrets of the vector are overwritten.
+    /// One vector more for the subscriber of a slot, as `Subscriber::give` does; nothing else changes.
+    ///
+    /// Full where 64 of its vectors aren't spent or 2^62 were given, then NoMemory where room was refused; then the MME is as it
+    /// was, and the secrets of the vector are overwritten.
     pub fn give(&mut self, slot: Slot, vector: Vector) -> Result<(), ProvisionFault>
         requires { slot < length self.old.sight.profiles }
         ensures full { (result ≡ Err Full) ↔ (give_fault slot self.old ≡ Some Full) }

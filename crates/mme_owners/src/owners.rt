@@ -33,8 +33,15 @@ use std::alloc::{AllocError, Global};
 use std::marker::Model;
 use stranger_machine::{After, Notice};
 
-/// Strangers and subscribers, the queue of their countdowns, and the map of their associations; a contract sees the clock, each
-/// stranger and each subscriber as it is now, and for how many countdowns and changes of associations there is room.
+/// Strangers and subscribers; one queue has exactly the countdowns that run (`AreRecords`), and one map the associations
+/// (`ArePlaced`). `is_due` says whether the next tick ends a countdown, `due` gives whose; `pass` is a tick that ends none.
+/// `concerned` and `listed` answer, by a look at their state, the slots that the loss of a station, or its RESET of a part, may
+/// change (`touched_slots`). `settle`, `settle_all`, `settle_turn`, `note` and `tick` take no memory if there is room, except for a
+/// new stranger; they take countdowns of 1 to 3480 ticks and states that ask for no spent vector (`AreOnward`), as all prepared
+/// ones are.
+///
+/// A contract sees the clock, each stranger and each subscriber as it is now, and for how many countdowns and changes of
+/// associations there is room.
 #[derive(Drop)]
 pub struct Owners {
     /// The records of both, with the queue.
@@ -174,7 +181,10 @@ impl Owners {
         self.records.states(slot)
     }
 
-    /// The subscriber of a slot, if it is somebody's, as it was when it was touched, and the ticks since then. Takes no memory.
+    /// Lends the subscriber of a slot, if there is one, in its last stored state with the number of ticks since, which alone make
+    /// its current state (`lent_now`).
+    ///
+    /// Takes no memory.
     pub fn look<'a>(&'a self, slot: Slot) -> Option<LentSubscriber<'a>>
         ensures { option_map lent_now result ≡ slice_get self.entry.now.subscribers slot }
     {

@@ -85,7 +85,11 @@ fn settle_all(records: &mut Vec<Record>, clock: u64, stepped: Vec<Stepped>)
     }
 }
 
-/// Subscribers by slot; a contract sees the clock, by which the table tells what its own are now, and each subscriber as it is now.
+/// Subscribers by slot: `states`, `is_still` and `prepare` answer what the list says, and `prepare` doesn't change it. `give` is
+/// refused as full exactly if the subscriber takes no more vectors. `settle` and `tick` leave the prepared states, and at a tick
+/// each other subscriber with a tick less, without memory.
+///
+/// A contract sees the clock, by which the table tells what its own are now, and each subscriber as it is now.
 #[derive(Drop)]
 pub struct Subscribers {
     records: Vec<Record>,

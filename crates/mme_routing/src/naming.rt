@@ -72,7 +72,9 @@ fn slot_of_message(
     }
 }
 
-/// The slot that an INITIAL UE MESSAGE names by its NAS message and the S-TMSI beside it, or nobody's. Takes no memory.
+/// The slot that an INITIAL UE MESSAGE names, if any: as defined, by its octets, the network and the provisioning alone.
+///
+/// Takes no memory.
 #[tactic(auto, unfolding(crate::specs::Naming::named_slot))]
 pub(crate) fn named_slot(
     network: &Network,

@@ -336,7 +336,9 @@ fn outcome_of_message<'a>(
     }
 }
 
-/// What the octets make of a station in that state, and where they go; `response` is the network's S1 SETUP RESPONSE.
+/// The station's new state, what is sent for it, and where the event goes: as defined, by these and the station's state alone.
+///
+/// By the octets, the network and the provisioning; `response` is the network's S1 SETUP RESPONSE.
 pub fn outcome_of<'a>(
     alloc: Global,
     network: &Network,

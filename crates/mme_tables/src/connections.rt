@@ -17,8 +17,12 @@ use sorted_list::SortedList;
 use std::alloc::{AllocError, Global};
 use std::marker::Model;
 
-/// Where the phone of each slot is, and each stranger that waits. Contracts see the phones by slot, all associations by id, and for
-/// how many changes there is room.
+/// Where each slot's phone is, and the map of all associations, the connections and the places of waiting strangers: no id stands
+/// twice (`are_apart`). `set` puts a phone on an id that nobody else has, `begin_wait` a stranger, and `end_wait` takes it away,
+/// without memory. `concerned` answers the slots whose phone is connected at a station or is paged, `listed` those whose connection
+/// a RESET means, by rising slot.
+///
+/// Contracts see the phones by slot, all associations by id, and for how many changes there is room.
 #[derive(Drop)]
 pub struct Connections {
     by_slot: Vec<Whereabouts>,

@@ -18,8 +18,11 @@ use std::alloc::{AllocError, Global};
 use std::marker::Model;
 use stranger_machine::{LentStranger, Notice, Stranger};
 
-/// The strangers that aren't closed. Contracts see the clock, by which the table tells what its own are now, and each stranger as
-/// it is now, by rising id; one that isn't there is closed.
+/// A map from id to each stranger's state: `tick` leaves what each one's machine leaves, given those whose T3470 it ends, without
+/// memory.
+///
+/// Contracts see the clock, by which the table tells what its own are now, and each stranger that isn't closed as it is now, by
+/// rising id.
 #[derive(Drop)]
 pub struct Strangers {
     sleepers: Sleepers,

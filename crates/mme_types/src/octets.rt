@@ -72,7 +72,9 @@ fn overwrite(octets: &mut Vec<u8>)
     octets.as_mut_slice().fill(0);
 }
 
-/// The octets of one whole S1AP message, of which there are at most 16,388; a contract sees their list.
+/// The octets of a message, at most 16,388.
+///
+/// A contract sees their list.
 #[derive(Drop)]
 pub struct SentOctets {
     octets: Vec<u8>,
@@ -115,8 +117,10 @@ impl SentOctets {
         let _ = &self.octets;
     }
 
-    /// Zeros stand in place of the octets of a message that may carry a key: of INITIAL CONTEXT SETUP REQUEST, which has KeNB,
-    /// and of PATH SWITCH REQUEST ACKNOWLEDGE, which has NH (TS 36.413 clauses 9.1.4.1 and 9.1.5.9). Takes no memory.
+    /// Leaves zeros in place of octets that may carry a key, by the code of their procedure, and all others as they are.
+    ///
+    /// These are INITIAL CONTEXT SETUP REQUEST, which has KeNB, and PATH SWITCH REQUEST ACKNOWLEDGE, which has NH (TS 36.413
+    /// clauses 9.1.4.1 and 9.1.5.9). Takes no memory.
     pub fn forget(&mut self)
         ensures { self.new ≡ without_key self.old }
     {

@@ -26,7 +26,9 @@ pub fn is_broadcast(plmn: Plmn, plmns: &[Plmn]) -> bool
     plmns.iter().any(|other| *other == plmn)
 }
 
-/// The 128 stations by number; a contract sees the list of their states.
+/// The states of the 128 stations, by number.
+///
+/// A contract sees the list.
 #[derive(Drop)]
 pub struct EnbWorld {
     stations: Vec<StationState>,

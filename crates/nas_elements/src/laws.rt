@@ -32,7 +32,7 @@ pub fn written_is_spelled()
     ensures { (r : Row) (v : RowValue r) → are_distinct r.kept ≡ true → RowFits r v → SpellsRow r v (write_row r v) }
 {}
 
-/// A value of such a row that octets spell can be written.
+/// A value that octets spell of a row whose kept elements are distinct can be written.
 pub fn spelled_is_writable()
     ensures { (r : Row) (v : RowValue r) (os : List ℕ) → are_distinct r.kept ≡ true → Small os → SpellsRow r v os → RowFits r v }
 {}

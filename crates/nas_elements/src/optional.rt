@@ -102,7 +102,10 @@ pub fn element_at(domain: Domain, octets: &[u8]) -> Option<(Element<&[u8]>, &[u8
     }
 }
 
-/// The optional part of a message: octets that the rules part into elements. Contracts see the list of the elements.
+/// The optional part of a message. All messages skip optional parts by this one definition, and of repeated elements the first
+/// counts.
+///
+/// It is octets that the rules part into elements, of which contracts see the list.
 #[derive(Drop)]
 pub struct Optional<'a> {
     domain: Domain,

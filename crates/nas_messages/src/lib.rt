@@ -1,5 +1,5 @@
-//! The NAS messages between a phone and an MME (TS 24.301): octets to values that lend their octets, and values to octets,
-//! in both directions; and the protected form. Decoding and splitting take no memory.
+//! NAS messages (TS 24.301): octets to values that lend them, and back, as defined (`decoded_emm`, `decoded_esm`, `encoded_emm`,
+//! `encoded_esm`); and the protected form, whose parts are parts of the octets. Decoding and splitting take no memory.
 #![tactic(auto)]
 
 mod emm_decoding;

@@ -91,10 +91,10 @@ impl<I: Integrity> SecurityContext<I> {
         self.up_last
     }
 
-    /// The protected form of a message under the next downlink count, which is spent (TS 24.301
-    /// clause 4.4.3.1): the count's low 8 bits are its sequence number. `CountSpent` exactly where
-    /// that count has more than 24 bits, else `NoMemory` where memory was refused; a refused call
-    /// spends nothing.
+    /// The protected form of a message under the next downlink count, which is spent (TS 24.301 clause 4.4.3.1). Refused as
+    /// `CountSpent` exactly from 2^24 on; a refused call spends nothing.
+    ///
+    /// The count's low 8 bits are the sequence number. `NoMemory` where memory was refused.
     #[tactic(auto, unfolding(crate::specs::Protecting::protected_by))]
     pub fn protect(
         &mut self,
@@ -117,11 +117,12 @@ impl<I: Integrity> SecurityContext<I> {
         Ok(form)
     }
 
-    /// The count and the message of octets in the protected form (TS 24.301 clause 4.4.3.3): their header
-    /// is one of those allowed, the count is the least above the last accepted one with the sequence
-    /// number as its low 8 bits, and the MAC is right; that count is then the last accepted one.
-    /// Else `WrongHeader`, `CountSpent` where the count would have more than 24 bits, or `BadMac`,
-    /// in this order, and nothing changes. Takes no memory.
+    /// The count and the message of octets exactly where `accepted_is_exact` says so (TS 24.301 clause 4.4.3.3); that count is then
+    /// the last accepted one. Takes no memory.
+    ///
+    /// Their header is one of those allowed, the count is the least above the last accepted one with the sequence number as its low
+    /// 8 bits, and the MAC is right. Else `WrongHeader`, `CountSpent` where the count would have more than 24 bits, or `BadMac`, in
+    /// this order, and nothing changes.
     #[tactic(auto, unfolding(crate::specs::Accepting::accepted))]
     pub fn accept<'a>(
         &mut self,
@@ -151,11 +152,11 @@ impl<I: Integrity> SecurityContext<I> {
         Ok((count, protected.message))
     }
 
-    /// The count of a SERVICE REQUEST (TS 24.301 clause 8.2.25): `c7`, the context's key set identifier
-    /// with the low 5 bits of the count, which is the least above the last accepted one with these
-    /// bits, and the last two octets of the MAC over the first two; that count is then the last
-    /// accepted one. Else `WrongHeader`, also for another key set identifier, `CountSpent` or
-    /// `BadMac`, in this order, and nothing changes. Takes no memory.
+    /// As `accept`, of a SERVICE REQUEST, with the low 5 bits of the count, the last two octets of the MAC, and the key set
+    /// identifier (TS 24.301 clause 8.2.25). Takes no memory.
+    ///
+    /// It is `c7`, the context's key set identifier with these bits, and the MAC's octets over the first two. Else `WrongHeader`,
+    /// also for another key set identifier, `CountSpent` or `BadMac`, in this order, and nothing changes.
     #[tactic(auto, unfolding(crate::specs::Accepting::short_accepted))]
     pub fn accept_short(&mut self, octets: &[u8; 4]) -> Result<u32, SecurityFault>
         ensures answer { result ≡ short_accepted (I.mac_of self.old.integrity) self.old.up_last self.old.ksi octets.now }

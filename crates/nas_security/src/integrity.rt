@@ -43,7 +43,9 @@ impl Eia2 {
         }
     }
 
-    /// The algorithm under a key of 16 zeros, which stands where a key was forgotten; nothing is expanded for it.
+    /// The algorithm under the key of 16 zeros.
+    ///
+    /// It stands where a key was forgotten; nothing is expanded for it.
     pub fn forgotten() -> Self
         ensures { result ≡ replicate 16 0 }
     {

@@ -10,7 +10,10 @@ ghost use Rattle.per_streams.specs.Writing.{Wrote};
 use per_streams::{BitReader, BitWriter, PerError};
 use std::alloc::Global;
 
-/// A value that is read from bits, of which it may lend octets, and written as bits.
+/// A value with a format. Reading answers the value or the fault that `read_at` gives, and moves the reader past a value;
+/// writing adds what `write_at` gives, or answers Range.
+///
+/// What is read may lend octets of the encoding.
 pub trait Element<'a>: Drop {
     /// How its values are spelled.
     ghost format: { Format };

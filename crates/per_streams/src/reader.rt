@@ -7,7 +7,9 @@ ghost use Rattle.per_streams.specs.Bits.{TakesPart, Place, Answers, start, bits,
 use crate::fault::PerFault;
 use std::marker::Model;
 
-/// A reading place in an encoding; a contract sees how many bits stand before it, and those from it on. No call takes memory.
+/// A reading place in an encoding. Each call says by equations which bits it reads, or its fault.
+///
+/// A contract sees how many bits stand before it, and those from it on. No call takes memory.
 #[derive(Drop)]
 pub struct BitReader<'a> {
     octets: &'a [u8],

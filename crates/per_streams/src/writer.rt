@@ -8,7 +8,9 @@ use crate::fault::PerError;
 use std::alloc::Global;
 use std::marker::Model;
 
-/// An encoding as far as it was written; a contract sees its bits. After a refusal nothing is said of it.
+/// An encoding as far as it was written. Each call says by equations which bits it adds.
+///
+/// A contract sees its bits. After a refusal nothing is said of it.
 #[derive(Drop)]
 pub struct BitWriter {
     octets: Vec<u8>,

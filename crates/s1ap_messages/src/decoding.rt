@@ -10,11 +10,10 @@ use s1ap_pdus::{MessageType, S1apFault, S1apPdu, named_again};
 use s1ap_rows::read_frame;
 use std::alloc::Global;
 
-/// The message that the octets spell, or their first fault (TS 36.413 clause 9.1).
+/// The message that `decoded` gives for the octets, one of the profile's 21, or exactly its fault (TS 36.413 clause 9.1).
 ///
-/// The octets are lent to the message. The frame's faults come first, then an unknown procedure, then
-/// those of the elements from the left, and a missing element last. NoMemory stands where a growth was
-/// refused. Criticalities are not compared.
+/// The octets are lent to the message. The frame's faults come first, then an unknown procedure, then those of the elements from
+/// the left, and a missing element last. NoMemory stands where a growth was refused. Criticalities are not compared.
 // the messages are matched here, and not in a function of their own, which would copy a message once more
 #[tactic(auto, using(s1ap_rows::specs::Criticalities::named_again, crate::proofs::Naming::answers_named), unfolding(s1ap_pdus::specs::Typed::decode_typed))]
 pub fn decode<'a>(alloc: Global, octets: &'a [u8]) -> Result<S1apPdu<'a>, S1apFault>

@@ -67,9 +67,9 @@ fn type_of(kind: u8, code: u8) -> Option<MessageType>
     }
 }
 
-/// The message of a frame by its kind (0 initiating, 1 successful, 2 unsuccessful) and its procedure's code
-/// (TS 36.413 clause 9.3.2).
-/// UnknownProcedure, with the frame's criticality, where there is none.
+/// The message of a frame's kind and code, else `UnknownProcedure` with the frame's criticality.
+///
+/// The kind is 0 for initiating, 1 for successful and 2 for unsuccessful (TS 36.413 clause 9.3.2).
 pub(crate) fn message_type_of(
     kind: u8,
     code: u8,

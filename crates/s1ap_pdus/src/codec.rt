@@ -107,10 +107,10 @@ impl MessageType {
     }
 }
 
-/// The octets of a message: its rows in their order, with the criticalities of the standard's table. There are at most 16,388.
+/// The octets that `encoded` gives for a message, at most 16,388; `NotWritable` exactly where it gives none.
 ///
-/// NotWritable where a part has no spelling: an extended name, or a number, a string or a list out of
-/// its range. NoMemory where a growth was refused.
+/// Rows stand in their order, with the criticalities of the standard's table. NotWritable is a message of which a part has no
+/// spelling: an extended name, or a number, a string or a list out of its range. NoMemory where a growth was refused.
 #[tactic(auto, unfolding(crate::specs::Pdus::encoded))]
 pub fn encode(alloc: Global, message: &S1apPdu) -> Result<Vec<u8>, EncodeFault>
     ensures octets { Encodes (λ v. v.items) result (encoded (lists message.now)) }

@@ -43,12 +43,17 @@ impl Script {
     }
 }
 
-/// What the script line of that number does: it is given without its LF, and what it stands for is printed and played, with
-/// what stations and phones send at that. At most 64 such messages are played for a line, and for each of its ticks; of the
-/// others only their number is printed. A line that can't be read has its fault. `Order` is the fault of a line that
-/// provisions after an act, an event or a question, and of any other line that says something before `mme`; `Provision` that
-/// of a line that provisions or asks for a subscriber as it may not. At each of these faults nothing is printed, and the script
-/// is as it was. Where memory is refused nothing of the line is printed, and the progress is as far as it got with the line.
+/// Plays a line of a script. It is refused with `script_fault` exactly if it has that fault, or for lack of memory. The fault is
+/// the one with which the line is read, or the one that it has in a trace, or Order if it provisions after an act, an event or a
+/// question, or acts before `mme`; then nothing is printed and nothing changes, stations and phones included. If memory is refused,
+/// nothing of the line is printed, and the trace is as it was; or with what the line provisions; or with nothing, if there was no
+/// memory to make the MME; or with the MME after some events (`IsFurther`). Otherwise the line leaves the trace, the stations and
+/// phones, and the output as defined (`PlaysText`). Each message that the MME sends is delivered to its station, in order. What
+/// stations and phones answer comes after it, at most 64 messages after a line or a tick, and the number of those left out is
+/// printed. `tick N` makes N ticks, each answered before the next, up to the first that is refused. The station or phone that acts,
+/// is set up or is lost is the one that the line names.
+///
+/// It is given without its LF, with its number.
 pub fn play_script_line(
     alloc: Global,
     script: &mut Script,

@@ -51,8 +51,11 @@ pub enum PhoneAct {
     Forge,
 }
 
-/// A simulated phone: its IMSI and its vectors, whether it is deaf, its registration, and its last message in the protected
-/// form.
+/// A simulated phone, whose calls and their parts are as defined; an act that can't be done answers nothing whatever memory there
+/// is. Attach, info and foreign always send the ATTACH REQUEST; a phone that isn't deaf answers a plain AUTHENTICATION REQUEST by a
+/// RESPONSE with the XRES of its first vector with that RAND, or by FAILURE 20.
+///
+/// It has its IMSI and its vectors, whether it is deaf, its registration, and its last message in the protected form.
 #[derive(Drop)]
 pub struct Phone {
     alloc: Global,

@@ -9,8 +9,13 @@ use std::alloc::Global;
 use std::io::{Read, Write};
 use trace_run::{MOST_TURNS, PlayFault, Watched, play_lines};
 
-/// Simulates the script that the reader gives: what comes of each line is written, as a trace with its answers, before the next
-/// line is played. What has been written is flushed before each read after the first.
+/// Simulates the script that the reader gives, from octets to octets. If it ends with Ok or with a fault of the script, what has
+/// been written, played as a trace, has no fault and prints its own lines that begin with `# `, without these two octets; and its
+/// lines whose first word is `mme`, `sub`, `vec`, `data`, `cancel` or `show` are, in order, what the script's say, up to its end or
+/// to before the line with the fault. A fault is that of the first line that has one; if the answer is Ok, none has. The rest is as
+/// with `run_play`. All this holds whatever stations and phones send.
+///
+/// What comes of each line is written before the next line is played, and flushed before each read after the first.
 pub fn run_sim<R: Read, W: Write>(
     alloc: Global,
     reader: &mut Watched<R>,

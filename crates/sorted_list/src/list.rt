@@ -13,8 +13,11 @@ use crate::taking::{replace_in, take_from};
 use std::alloc::{AllocError, Global};
 use std::marker::Model;
 
-/// Elements with keys of their own. Contracts see them by rising key, and for how many more there is room: that many can be
-/// inserted with no allocation, whatever is taken out or replaced between. A call that is refused leaves the list as it was.
+/// Elements by rising key, each key once. Each call is its function on the flat list; a refused one leaves the list as it was. As
+/// many insertions as there is room for can't be refused, at any keys, whatever is taken or replaced between. If there is room,
+/// neither `reserve` nor `insert` is refused; `insert_reserved`, `take`, `take_first` and `replace` never are.
+///
+/// Contracts see the elements, and for how many more there is room.
 #[derive(Drop)]
 pub struct SortedList<T: Keyed> {
     // No chunk is empty.
@@ -59,8 +62,9 @@ impl<T: Keyed> SortedList<T> {
         SortedList::empty(alloc, false)
     }
 
-    /// No elements, in a steady list: where an element is taken out there is room for another, at any key. It holds a chunk for
-    /// each 64 elements that it has and has room for.
+    /// A steady list, without elements: a `take` that finds its element leaves room for another, at any key.
+    ///
+    /// It holds a chunk for each 64 elements that it has and has room for.
     pub fn steady(alloc: Global) -> Self
         ensures items { result.items ≡ [] }
         ensures room { result.room ≡ 0 }

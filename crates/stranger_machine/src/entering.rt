@@ -133,7 +133,7 @@ fn displaced_by<'a>(id: AssociationId, before: Option<LentStranger<'_>>) -> Opti
 }
 
 /// A stranger with this id begins with an INITIAL UE MESSAGE that names nobody: an attach with a temporary identity is asked for
-/// the IMSI, any other request is refused, any other message is turned away by the release alone. Who held the id is called.
+/// the IMSI, any other request is refused, any other message turned away by the release alone. Who held the id is called.
 #[tactic(auto, unfolding(crate::specs::Machine::begins, crate::specs::Machine::welcomed))]
 pub fn begins<'a>(
     alloc: Global,

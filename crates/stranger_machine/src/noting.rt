@@ -32,8 +32,7 @@ fn is_meant(id: AssociationId, station: StationNumber, items: &AssociationsToRes
 }
 
 impl LentStranger<'_> {
-    /// What the stranger with this id sends at a notice: at a tick that ends T3470 the request once more, at the last one the
-    /// release.
+    /// What the stranger sends at a notice: at a tick that ends T3470 the request once more, at the last one the release.
     #[tactic(auto, unfolding(crate::specs::Machine::notes, crate::specs::Machine::ticks, crate::specs::Machine::waits, crate::specs::Machine::loses))]
     pub fn sends(
         &self,
@@ -68,7 +67,8 @@ impl LentStranger<'_> {
 }
 
 impl Stranger {
-    /// Whether a notice leaves it open.
+    /// Whether a notice leaves it open: a station that goes closes its strangers, and a RESET of a part those that an item means,
+    /// held ones too.
     #[tactic(auto, unfolding(crate::specs::Machine::notes, crate::specs::Machine::ticks, crate::specs::Machine::waits, crate::specs::Machine::loses))]
     pub fn stays_open(&self, id: AssociationId, notice: &Notice) -> bool
         ensures { result ≡ stays_open notice.now (record { id = id; stranger = self.now }) }
@@ -115,7 +115,7 @@ impl Stranger {
         }
     }
 
-    /// Its T3470, if it runs, has that many ticks less: what it is after ticks that don't end it.
+    /// What a stranger is after ticks that don't end its T3470.
     pub fn pass_ticks(&mut self, ticks: u64)
         ensures { self.new ≡ stranger_aged ticks self.old }
     {

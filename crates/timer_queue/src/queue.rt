@@ -112,8 +112,12 @@ fn drop_due(queue: &mut SortedList<Deadline>, index: &mut SortedList<RunningTime
     }
 }
 
-/// The clock in ticks, and the running timers. Contracts see the clock, the running countdowns in the order of their timers
-/// (`timers_apart`, `in_owner_order`, `procedure_first`), and for how many more there is room.
+/// A map of countdowns: `due` and `tick` answer those that a tick ends, in their order, and `is_due` whether there is one. If there
+/// is room, `reserve` and `start` aren't refused; `start_reserved`, `start_stopped` (of a timer that doesn't run), `stop` and
+/// `pass` never are.
+///
+/// Contracts see the clock, the running countdowns in the order of their timers (`timers_apart`, `in_owner_order`,
+/// `procedure_first`), and for how many more there is room, which a refused `reserve` may leave more of.
 #[derive(Drop)]
 pub struct Timers {
     clock: u64,

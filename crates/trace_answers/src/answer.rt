@@ -41,7 +41,9 @@ pub fn sent_line(out: &Out) -> Answer<'_>
     Answer::Sent(out.owner, out.station, out.octets.as_slice())
 }
 
-/// The line of an answer, with the LF that ends it: it has no other LF, and is longer than its octets in hex by at most 80 octets.
+/// The line of an answer, with its LF, as defined (`out_text`, `sent_text`, `refused_text`, `states_text`).
+///
+/// It has no other LF, and is longer than its octets in hex by at most 80 octets.
 pub fn write_answer(alloc: Global, answer: &Answer<'_>) -> Result<Vec<u8>, AllocError>
     ensures text { IfOk result (λ line. line.items ≡ answer_text answer.now) }
     ensures line { IfOk result (λ line. IsLineWithin (80 + 2 * octets_said answer.now) line.items) }

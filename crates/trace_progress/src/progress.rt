@@ -120,8 +120,10 @@ fn fault_in_provision(line: u64, fault: ProvisionFault) -> PlayFault
     }
 }
 
-/// Makes the MME of what is provisioned, where it doesn't run yet. Order where nothing is, and then the progress is as it was;
-/// NoMemory last, and only where no MME runs yet: then nothing is provisioned any more, since `Mme::new` takes what was.
+/// Makes the MME of what is provisioned, where it doesn't run yet. A line that has a fault has it whatever memory there is. Memory
+/// is refused to `run` only if no MME runs yet, and then the provisioning is gone (`IsUnmade`).
+///
+/// Order where nothing is provisioned, and then the progress is as it was. `Mme::new` takes what was provisioned.
 pub fn run(alloc: Global, progress: &mut Progress, number: u64) -> Result<(), PlayFault>
     ensures runs { Runs number (running progress.old) result progress.new }
     ensures fault { IfErr (running progress.old) (λ fault. result ≡ Err (PlayFault.Trace number fault)) }

@@ -20,12 +20,13 @@ use std::io::Write;
 use trace_progress::{PlayFault, Progress, add, give, run, start, states_of_imsi};
 use trace_words::{Line, TraceFault};
 
-/// Does what the line of that number says, and writes its answers. Order or Provision where what came before doesn't allow the
-/// line, and then nothing is written; Write where the writer failed and NoMemory where a growth of memory was refused, and then a
-/// front of its answers is. Takes memory for what is provisioned, for the MME, which the first event or question makes, for what
-/// an event sends, and for an answer that `room` is too small for: the room of the last line, used again. A line's own fault leaves
-/// the progress as it was. At Write and NoMemory the MME has taken the first of the line's events and no other, or nothing is
-/// provisioned any more where there was no memory for the MME.
+/// Does what a line says, and writes its answers. If a write or memory is refused, the MME has taken the line's
+/// events up to some place, perhaps none or all, or is unmade (`IsUnmade`).
+///
+/// Order or Provision where what came before doesn't allow the line, and then nothing is written; Write where the writer failed and
+/// NoMemory where a growth of memory was refused, and then a front of its answers is. Takes memory for what is provisioned, for the
+/// MME, which the first event or question makes, for what an event sends, and for an answer that `room` is too small for: the room
+/// of the last line, used again. A line's own fault leaves the progress as it was.
 #[tactic(auto, unfolding(trace_progress::specs::Effects::effect_of))]
 pub(crate) fn act_on_line<W: Write>(
     alloc: Global,

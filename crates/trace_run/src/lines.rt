@@ -18,12 +18,14 @@ use trace_progress::PlayFault;
 // The octets of a text that are read at once, at most.
 const PIECE: usize = 65_536;
 
-/// Plays the text that the reader gives, line by line, and writes what comes of each line before the next one is played. What has
-/// been written is flushed before each read after the first.
+/// Plays the text that the reader gives line by line, by any player (`PlaysLines`): the lines that were read (the last may lack its
+/// LF) have been played in order, each with its number, to the end or to the first that is refused, and what has been written is
+/// what the player wrote of them. A fault has its line's number, and is the player's, or `TooLong` for a line of more than 40000
+/// octets, which isn't played. If reading, writing or memory fails, the next line may have been begun. The player is as the played
+/// lines left it, or as its `plays` says of the refused one.
 ///
-/// The fault is that of a line, `TooLong` where it has over 40,000 octets; `Read` where a read failed or 2^32 were made; `Write`
-/// where a call of the writer failed; `NoMemory`. Then the lines before are played, and the player is as they left it, or as the
-/// line left it that has a fault.
+/// What comes of a line is written before the next one is played, and flushed before each read after the first. `Read` where a read
+/// failed or 2^32 were made; `Write` where a call of the writer failed.
 pub fn play_lines<P: PlaysLines, R: Read, W: Write>(
     alloc: Global,
     player: &mut P,

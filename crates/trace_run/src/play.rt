@@ -11,8 +11,13 @@ use std::alloc::Global;
 use std::io::{Read, Write};
 use trace_progress::PlayFault;
 
-/// Plays the trace that the reader gives, and writes the answers of each event before the next one.
-/// What has been answered is flushed before each read after the first.
+/// Plays the trace that the reader gives, from octets to octets: what has been written is `played_of` of what has been read, to its
+/// end or to the line with the fault; if reading, writing or memory fails, a prefix of that. Ok is answered only if the reader met
+/// the end, and no octet is left of a reader that reports its octets; `Read` exactly if a read failed, or 2^32 were made; `Write`
+/// exactly if a call of the writer failed.
+///
+/// The answers of each event are written before the next one is played. What has been answered is flushed before each read after
+/// the first.
 pub fn run_play<R: Read, W: Write>(
     alloc: Global,
     reader: &mut Watched<R>,

@@ -12,8 +12,10 @@ use std::marker::Model;
 /// How many reads a run makes at most.
 pub const MOST_TURNS: u64 = 4_294_967_296;
 
-/// A reader or a writer, with what became of the calls of it; a contract sees it and that (`Watching`). Nothing else changes what
-/// became of them, so a run can't say that an end was met or a call failed where none was made.
+/// A reader or a writer, with what became of its calls, which nothing else changes: the end is met exactly if a `read` with room
+/// gave nothing, and a call has failed exactly if one was refused, or a `write` took none of its octets.
+///
+/// A contract sees it and that (`Watching`). So a run can't say that an end was met or a call failed where none was made.
 #[derive(Drop)]
 pub struct Watched<T> {
     // The reader or the writer itself.

@@ -51,8 +51,9 @@ pub const LONGEST_LINE: usize = 40000;
 /// As many words as a good line of a trace has at most: room for them is taken at once.
 const USUAL_WORDS: usize = 8;
 
-/// What a line says, given without its LF, or its first fault: TooLong, UnknownWord, FieldCount,
-/// and then BadNumber or BadHex of the leftmost field that has one. Only NoMemory may stand in place of that.
+/// What `line_of` says of a line of a trace, given without its LF, or its fault. Only NoMemory may stand in place of that.
+///
+/// The first fault of TooLong, UnknownWord, FieldCount, and then BadNumber or BadHex of the leftmost field that has one.
 #[tactic(auto, unfolding(crate::specs::Trace::line_of))]
 pub fn parse_line(alloc: Global, line: &[u8]) -> Result<Line, TraceFault>
     ensures { (result ≡ Err TraceFault.NoMemory) ⊎ (result ≡ line_of line.now) }

@@ -21,9 +21,10 @@ pub enum ScriptLine {
     Act(ScriptAct),
 }
 
-/// What a line of a script says, given without its LF, or its first fault: TooLong, UnknownWord, FieldCount, and then
-/// BadNumber or BadHex of the leftmost field that has one. Only NoMemory may stand in place of that. A line with the first
-/// word of what is provisioned, of `data`, `cancel` or `show` is read as in a trace; no other line has such a word.
+/// What `script_line_of` says of a line of a script, given without its LF, or its fault. Only NoMemory may stand in place of that.
+///
+/// The first fault of TooLong, UnknownWord, FieldCount, and then BadNumber or BadHex of the leftmost field that has one. A line
+/// with the first word of what is provisioned, of `data`, `cancel` or `show` is read as in a trace; no other line has such a word.
 pub fn parse_script_line(alloc: Global, text: &[u8]) -> Result<ScriptLine, TraceFault>
     ensures line { (result ≡ Err TraceFault.NoMemory) ⊎ (result ≡ script_line_of text.now) }
     ensures says { IfOk result (λ line. Says text.now line) }

@@ -14,8 +14,10 @@ use mme_types::Network;
 use nas_elements::{Imsi, text_is_imsi};
 use std::alloc::{AllocError, Global};
 
-/// A line without its LF, in one spelling: numbers without leading zeros, octets in lower case. It is read as this line,
-/// where any text is. A line that says nothing is the empty text.
+/// The text of a line, without an LF, which is read as this line.
+///
+/// It has one spelling: numbers without leading zeros, octets in lower case. It is read as this line, where any text is. A line
+/// that says nothing is the empty text.
 pub fn write_line(alloc: Global, line: &Line) -> Result<String, AllocError>
     ensures text { IfOk result (λ text. string_bytes text ≡ line_text line.now) }
     ensures read { IfOk result
@@ -138,8 +140,9 @@ pub fn write_lost(alloc: Global, station: StationNumber) -> Result<String, Alloc
     write_number(alloc, "lost", u32::from(station.get()))
 }
 
-/// The line `in E OCTETS` without its LF: a station sends these octets. It is read as that line where it isn't longer than
-/// the longest.
+/// The line of an event, without an LF, which is read as it; a line `in` only up to 40000 octets.
+///
+/// The line is `in E OCTETS`: a station sends these octets.
 #[tactic(auto, unfolding(crate::specs::Trace::line_text))]
 pub fn write_in(alloc: Global, station: StationNumber, octets: &[u8]) -> Result<String, AllocError>
     ensures text { IfOk result (λ text. string_bytes text ≡ line_text (In station octets.now)) }
