@@ -45,7 +45,7 @@ pub joins : (ks : List Known) (ws : List SubscriberView) (x : SubscriberView) �
     → is_placed ks (length ws) x.solo.connection ≡ true → IdsApart ks ws → IdsApart ks (ws ++ x ∷ [])
 joins ks ws x room slot numbered placed h =
     pushed_apart ks ws x room slot (λ k on. own ks (length ws) k (numbered_by x.solo.connection numbered k on)
-        (ap (is_placed ks (length ws)) (sym on) ∙ placed)) h
+    (ap (is_placed ks (length ws)) (sym on) ∙ placed)) h
 
 module _ (v : Value saved_subscriber) (h : fits_subscriber v ≡ true) where
   state_fits : fits v.1.1.1.1.0 (length v.1.1.1.1.1.0) v.1.1.1.1.1.1.0 ≡ true

@@ -47,7 +47,7 @@ pub settle-requires-clause-counting : goal.settle-requires-clause-counting
 settle-requires-clause-counting c =
     subst (λ (s : Solo). IsCounting s) (sym (of_some _ _ _ c.in-Ok-Some.field-0-is c.in-Ok-Some.ensures.state))
     (counting _ c.clocks_are_kept.ensures.running
-        (clocked (typed_saved_subscriber c.args.saved.now) (of_some _ _ _ c.in-Ok-Some.field-0-is c.in-Ok-Some.ensures.fits) c.states_that_fit.ensures.clocked))
+    (clocked (typed_saved_subscriber c.args.saved.now) (of_some _ _ _ c.in-Ok-Some.field-0-is c.in-Ok-Some.ensures.fits) c.states_that_fit.ensures.clocked))
 
 pub returns-in-Ok-clause-apart : goal.returns-in-Ok-clause-apart
 returns-in-Ok-clause-apart c =

@@ -16,7 +16,7 @@ pub settle-requires-clause-apart : goal.settle-requires-clause-apart
 settle-requires-clause-apart c =
     let pushed = c.reserve.ensures.subscribers ∙ c.in_ok-push.ensures.ok in
     let is = settled c.args.owners.now.subscribers c.reserve.new.self.subscribers c.args.subscriber c.new.result c.args.slot
-        c.args.draft.value.solo pushed c.requires.next c.new.ensures in
+    c.args.draft.value.solo pushed c.requires.next c.new.ensures in
     subst (λ (ks : List Known). AreApart ks (with_solo c.new.result.slot c.new.result.solo c.reserve.new.self.subscribers)) (sym (c.reserve.ensures.strangers ∙ c.push.ensures.strangers))
     (subst (λ (ws : List SubscriberView). AreApart c.args.owners.now.strangers ws) (sym is) c.requires.apart)
 
@@ -30,4 +30,4 @@ pub returns-clause-subscribers : goal.returns-clause-subscribers
 returns-clause-subscribers c =
     c.settle.ensures.subscribers
     ∙ settled c.args.owners.now.subscribers c.reserve.new.self.subscribers c.args.subscriber c.new.result c.args.slot
-        c.args.draft.value.solo (c.reserve.ensures.subscribers ∙ c.in_ok-push.ensures.ok) c.requires.next c.new.ensures
+    c.args.draft.value.solo (c.reserve.ensures.subscribers ∙ c.in_ok-push.ensures.ok) c.requires.next c.new.ensures
