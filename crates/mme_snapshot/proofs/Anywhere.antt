@@ -1,7 +1,6 @@
 -- Octets that spell a value are read as it wherever an octet begins, whatever follows.
-use Rattle.std.proofs.Common.{◌≡◌, ℕ, ◌+◌, ◌*◌, ◌%◌, ◌∙◌, List, [], ◌++◌, length, Result, Ok, Err, Bool, refl, sym, ap, arith, append_assoc}
+use Rattle.std.proofs.Common.{◌≡◌, ℕ, ◌+◌, ◌*◌, ◌%◌, ◌∙◌, List, ◌++◌, length, Ok, Bool, refl, sym, ap, arith, append_assoc}
 use Rattle.std.proofs.lemmas.List.{length-append}
-use Rattle.per_streams.specs.declared.fault.PerFault.{PerFault}
 use Rattle.per_streams.specs.Bits.{Place, ◌>>=◌, align_at, octet_bits, pad}
 use Rattle.per_streams.specs.BitLaws.{length-octet_bits}
 use Rattle.per_streams.specs.OctetLaws.{exact_align}

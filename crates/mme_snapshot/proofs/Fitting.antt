@@ -22,7 +22,7 @@ use Rattle.snapshot_formats.specs.Formats.{saved_subscriber}
 use Rattle.snapshot_states.specs.Fit.{fits}
 use Rattle.snapshot_states.specs.Fitting.{FitsAreClocked, FitsAreInUse, FitsAreSound}
 use Rattle.snapshot_states.specs.States.{named_vector}
-use Rattle.mme_snapshot.specs.Images.{fits_subscriber, is_placed, setting_of, solo_of, spent_of, subscriber_of}
+use Rattle.mme_snapshot.specs.Images.{fits_subscriber, is_placed, setting_of, solo_of, subscriber_of}
 use Rattle.mme_snapshot.proofs.Pushed.{IsFit, own, pushed_apart}
 
 pub of_some : {A : Type 0} (P : A → Type 0) (o : Option A) (x : A) → o ≡ Some x → IfSome o P → P x

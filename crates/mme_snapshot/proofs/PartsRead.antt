@@ -1,26 +1,23 @@
 -- Parts in their order, one after another, restore to what is remembered of an MME.
-use Rattle.std.proofs.Common.{◌≡◌, ◌≢◌, ℕ, zero, suc, ◌+◌, ◌-◌, ◌*◌, ◌%◌, ◌<◌, ◌≤◌, ◌∙◌, List, [], ◌∷◌, ◌++◌, length, map, Bool, true, false, cond, Option, Some, None, Result, Ok, Err, refl, sym, ap, subst, arith, append_assoc}
-use Rattle.std.specs.Prelude.{◌==◌, nat_lt, is_none, not, option_map, slice_get}
+use Rattle.std.proofs.Common.{◌≡◌, ℕ, ◌+◌, ◌-◌, ◌*◌, ◌%◌, ◌<◌, ◌≤◌, ◌∙◌, List, [], ◌∷◌, ◌++◌, length, map, Bool, true, false, cond, Option, Some, None, Result, Ok, refl, sym, ap, subst, arith, append_assoc}
+use Rattle.std.specs.Prelude.{nat_lt, is_none, option_map, slice_get}
 use Rattle.std.specs.List.{concat}
 use Rattle.std.proofs.lemmas.Bool.Decides.{nat_tests}
 use Rattle.std.proofs.lemmas.List.{append-nil, length-append, length-map, length_push, map_push}
-use Rattle.std.proofs.lemmas.Option.{same_Some}
 use Rattle.sorted_list.specs.Ordered.{AllOver, Every, Rising}
 use Rattle.sorted_list.specs.Sorted.{lowest_from}
 use Rattle.per_streams.specs.Bits.{Place, end_at, pad, start}
 use Rattle.per_streams.specs.OctetLaws.{end_again}
 use Rattle.per_streams.specs.Each.{times}
-use Rattle.per_bits.specs.Formats.{Value, number}
+use Rattle.per_bits.specs.Formats.{number}
 use Rattle.per_bits.specs.Spelling.{SpellsWhole}
 use Rattle.identity_slots.specs.declared.profile.Profile.{Profile}
 use Rattle.nas_elements.specs.Digits.{imsi_of}
 use Rattle.identity_slots.specs.declared.provision.ProvisionFault.{ProvisionFault}
 use Rattle.identity_slots.specs.Provisioned.{add_fault}
 use Rattle.emm_machine.specs.SubscriberView.{SubscriberView}
-use Rattle.stranger_machine.specs.declared.state.Stranger.{Stranger}
 use Rattle.stranger_machine.specs.declared.table.Known.{Known}
 use Rattle.stranger_machine.specs.Table.{known_id}
-use Rattle.mme_types.specs.declared.connection.Connection.{Connection}
 use Rattle.mme_types.specs.declared.stations.StationState.{StationState}
 use Rattle.mme_core.specs.Kept.{IsKept, profile_of}
 use Rattle.mme_core.specs.Remembered.{remembered, remembered_view}
@@ -28,10 +25,9 @@ use Rattle.mme_core.specs.World.{World}
 use Rattle.snapshot_formats.specs.Formats.{saved_head, saved_station, saved_stranger, saved_subscriber}
 use Rattle.mme_snapshot.specs.declared.fault.RestoreFault.{RestoreFault}
 use Rattle.mme_snapshot.specs.declared.parts.Head.{Head}
-use Rattle.mme_snapshot.specs.declared.part.Part.{Part}
 use Rattle.mme_snapshot.specs.declared.part.Part.TheVariants as part
-use Rattle.mme_snapshot.specs.Images.{fits_stranger, hops_of, is_placed, is_timed, known_of, named_profile, named_station, solo_of, subscriber_of}
-use Rattle.mme_snapshot.specs.Restored.{◌>=>◌, Built, as_more, body_at, head_at, known_or, part_at, profile_in, repeated, restored, restored_within, stations_at, stranger_at_place, subscriber_at_place, subscribers_at, version}
+use Rattle.mme_snapshot.specs.Images.{hops_of, is_placed, is_timed, known_of, named_profile, solo_of, subscriber_of}
+use Rattle.mme_snapshot.specs.Restored.{◌>=>◌, Built, as_more, head_at, known_or, part_at, profile_in, repeated, restored, restored_within, stations_at, stranger_at_place, subscriber_at_place, subscribers_at, version}
 use Rattle.mme_snapshot.specs.Saved.{AreParts, AreProvisioned, IsFirst, IsNextStranger, IsStranger, IsSubscriber, IsSubscriberAt, PartsRestore, head_of, subscriber_from}
 use Rattle.mme_snapshot.proofs.Anywhere.{stays_whole}
 use Rattle.mme_snapshot.proofs.Fresh.{not_refused}

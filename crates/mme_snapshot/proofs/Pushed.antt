@@ -19,7 +19,6 @@ use Rattle.stranger_machine.specs.Table.{stranger_at}
 use Rattle.mme_owners.specs.Placed.{AreApart, place_if}
 use Rattle.laws_subscriber.specs.Clocked.{IsClocked}
 use Rattle.laws_subscriber.specs.Sound.{IsSound}
-use Rattle.laws_apart.specs.Alone.{IsOfStranger, IsOwn}
 use Rattle.laws_apart.specs.Apart.{IdsApart, IsApart, NoTwoShare, NoneHasWaiting, by_id}
 use Rattle.mme_core.specs.FreshRuns.{AreInUse}
 use Rattle.mme_core.specs.Kept.{HasNetwork, IsKept, profile_of}

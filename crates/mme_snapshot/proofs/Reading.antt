@@ -1,9 +1,8 @@
 -- Parts one after another, read from the left.
-use Rattle.std.proofs.Common.{◌≡◌, ℕ, zero, suc, ◌+◌, ◌*◌, ◌%◌, ◌∙◌, List, [], ◌∷◌, ◌++◌, length, map, Result, Ok, Err, Bool, refl, sym, ap, arith, append_assoc}
+use Rattle.std.proofs.Common.{◌≡◌, ℕ, ◌+◌, ◌*◌, ◌%◌, ◌∙◌, List, [], ◌∷◌, ◌++◌, length, map, Ok, Bool, refl, sym, ap, arith, append_assoc}
 use Rattle.std.proofs.lemmas.Grind.{flat_map-append}
 use Rattle.std.proofs.lemmas.List.{append-nil, length-append}
-use Rattle.per_streams.specs.declared.fault.PerFault.{PerFault}
-use Rattle.per_streams.specs.Bits.{Place, ◌>>=◌, bits, octet_bits, start}
+use Rattle.per_streams.specs.Bits.{Place, bits, octet_bits, start}
 use Rattle.per_streams.specs.Each.{times}
 use Rattle.per_bits.specs.Formats.{Format, Value}
 use Rattle.per_bits.specs.Spelling.{SpellsWhole}

@@ -1,5 +1,5 @@
 -- An MME that is put together, with a stranger more.
-use Rattle.std.proofs.Common.{◌≡◌, ◌≤◌, ℕ, List, [], ◌∷◌, ◌++◌, Bool, true, false, cond, Result, Ok, Err, refl, sym, ◌∙◌, ap, subst}
+use Rattle.std.proofs.Common.{◌≡◌, ◌≤◌, ℕ, List, [], ◌∷◌, ◌++◌, true, false, Ok, Err, sym, ◌∙◌, ap, subst}
 use Rattle.sorted_list.specs.Ordered.{put}
 use Rattle.per_bits.specs.Formats.{Value}
 use Rattle.mme_types.specs.declared.network.Network.{Network}

@@ -1,6 +1,6 @@
 -- An MME that is put together, with a subscriber more.
-use Rattle.std.proofs.Common.{◌≡◌, ◌≢◌, ◌≤◌, ◌<◌, ◌+◌, ℕ, List, [], ◌∷◌, ◌++◌, length, Bool, true, false, cond, Option, Some, None, Result, Ok, Err, refl, sym, ◌∙◌, ap, subst, arith}
-use Rattle.std.specs.Prelude.{nat_lt, not, option_map}
+use Rattle.std.proofs.Common.{◌≡◌, ◌≤◌, ◌<◌, ◌+◌, ℕ, List, [], ◌∷◌, ◌++◌, length, true, false, Option, Some, None, Result, Ok, Err, refl, sym, ◌∙◌, ap, arith}
+use Rattle.std.specs.Prelude.{nat_lt, option_map}
 use Rattle.std.specs.Option.{option_map_or}
 use Rattle.std.proofs.lemmas.Bool.Decides.{nat_tests}
 use Rattle.std.proofs.lemmas.Option.{same_Some}
@@ -19,7 +19,7 @@ use Rattle.snapshot_formats.specs.Formats.{saved_subscriber}
 use Rattle.mme_snapshot.specs.declared.fault.RestoreFault.{RestoreFault}
 use Rattle.mme_snapshot.specs.declared.fault.RestoreFault.TheVariants as faults
 use Rattle.mme_snapshot.specs.Images.{fits_subscriber, hops_of, is_placed, named_profile, solo_of, subscriber_of, with_subscriber}
-use Rattle.mme_snapshot.specs.Restored.{◌>=>◌, Built, known_or, profile_in, profiled_added, refusal_of, subscriber_added, unless_refused}
+use Rattle.mme_snapshot.specs.Restored.{Built, known_or, profile_in, profiled_added, refusal_of, subscriber_added}
 
 -- ---- the profile
 

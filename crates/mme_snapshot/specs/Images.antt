@@ -1,17 +1,15 @@
 -- What the parts of a snapshot are to an MME, and which of them it takes.
-use Rattle.std.specs.Prelude.{ℕ, ◌+◌, ◌==◌, ◌&&◌, ◌||◌, ◌++◌, ◌∷◌, Bool, true, false, not, nat_le, nat_lt, if◌then◌else◌, List, [], length, map, replicate, Option, Some, None, Result, Ok, Err, is_none, is_some}
+use Rattle.std.specs.Prelude.{ℕ, ◌==◌, ◌&&◌, ◌||◌, ◌++◌, ◌∷◌, Bool, true, false, not, nat_le, nat_lt, List, [], length, map, replicate, Option, Some, None, is_none}
 use Rattle.std.specs.List.{list_all}
 use Rattle.std.specs.Option.{option_map_or}
 use Rattle.std.proofs.Common.{inl, inr}
 use Rattle.per_bits.specs.Formats.{Value}
 use Rattle.sorted_list.specs.Sorted.{lowest_from}
-use Rattle.nas_elements.specs.Digits.{imsi_of}
 use Rattle.s1ap_elements.specs.Phones.{named_tai}
 use Rattle.s1ap_elements.specs.Stations.{named_supported_tas}
 use Rattle.identity_slots.specs.Ids.{is_of_slot, number_in, slot_in, station_in, stranger_id}
 use Rattle.identity_slots.specs.declared.profile.Profile.{Profile}
 use Rattle.identity_slots.specs.declared.profile.Vector.{Vector}
-use Rattle.identity_slots.specs.Provisioned.{add_fault}
 use Rattle.mme_types.specs.declared.connection.Connection.{Connection}
 use Rattle.mme_types.specs.declared.network.Network.{Network}
 use Rattle.mme_types.specs.Network.{is_label_octet}
@@ -33,8 +31,6 @@ use Rattle.mme_core.specs.World.{World}
 use Rattle.snapshot_formats.specs.Formats.{saved_context, saved_head, saved_network, saved_radio, saved_station, saved_stranger, saved_stranger_state, saved_subscriber, saved_waiting}
 use Rattle.snapshot_states.specs.Fit.{fits, fits_vector, is_within}
 use Rattle.snapshot_states.specs.States.{named_state, named_vector}
-use Rattle.mme_snapshot.specs.declared.fault.RestoreFault.{RestoreFault}
-use Rattle.mme_snapshot.specs.declared.fault.RestoreFault.TheVariants as faults
 
 -- ---- the head
 

@@ -1,5 +1,5 @@
 -- The parts of a snapshot, and what each says of an MME.
-use Rattle.std.specs.Prelude.{◌≡◌, ◌≤◌, ℕ, ◌+◌, Bool, true, false, not, nat_lt, if◌then◌else◌, List, [], ◌∷◌, ◌++◌, length, Option, Some, None, Ok, slice_get}
+use Rattle.std.specs.Prelude.{◌≡◌, ◌≤◌, ℕ, ◌+◌, true, not, nat_lt, if◌then◌else◌, List, [], ◌∷◌, ◌++◌, length, Option, Some, None, Ok, slice_get}
 use Rattle.std.specs.List.{concat}
 use Rattle.sorted_list.specs.Sorted.{lowest_from}
 use Rattle.per_bits.specs.Formats.{Value, number}

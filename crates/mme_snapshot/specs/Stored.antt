@@ -1,5 +1,5 @@
 -- What of a subscriber stands in its part.
-use Rattle.std.specs.Prelude.{ℕ, List, drop, map}
+use Rattle.std.specs.Prelude.{ℕ, drop, map}
 use Rattle.per_bits.specs.Formats.{Value}
 use Rattle.nas_elements.specs.Digits.{imsi_octets}
 use Rattle.identity_slots.specs.declared.profile.Vector.{Vector}
