@@ -1,4 +1,3 @@
 pub mod Answered
-pub mod LooseValues
-pub mod Restored
 pub mod Values
+pub mod LooseValues

@@ -1,3 +1,0 @@
-pub mod Fitting
-pub mod Sound
-mod Failing
