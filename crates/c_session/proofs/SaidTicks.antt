@@ -10,7 +10,7 @@ use Rattle.trace_progress.specs.Effects.{left_by, tick_then, ticked, with_text_b
 use Rattle.trace_progress.specs.Replies.{reply_text}
 use Rattle.c_session.specs.Kept.{Reply}
 use Rattle.c_session.specs.Texts.{HasPassed, IsFor, IsShort, stopped}
-use Rattle.c_session.proofs.Said.{left_short}
+use Rattle.c_session.proofs.Saying.{left_short}
 use Rattle.c_session.specs.declared.said.Short.{Short}
 
 -- after so many ticks: what they wrote, and the world that they left

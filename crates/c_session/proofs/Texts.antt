@@ -1,23 +1,24 @@
 -- Lines that are played, one after another.
-use Rattle.std.proofs.Common.{◌≡◌, ◌⊎◌, inl, inr, ℕ, zero, suc, ◌+◌, ◌-◌, ◌<◌, ◌≤◌, ◌==◌, Bool, true, false, List, [], ◌∷◌, ◌++◌, length, take, drop, get_or, Option, None, Some, Result, Ok, Err, refl, sym, subst, ap, ◌∙◌, arith, append-nil, append_assoc, length-append}
+use Rattle.std.proofs.Common.{◌≡◌, ◌⊎◌, inl, inr, ℕ, zero, suc, ◌+◌, ◌-◌, ◌<◌, ◌≤◌, ◌==◌, Bool, true, false, List, [], ◌∷◌, ◌++◌, length, take, drop, get_or, Option, None, Some, Result, Ok, Err, Bor, refl, sym, subst, ap, ◌∙◌, arith, append-nil, append_assoc, length-append}
 use Rattle.std.specs.Prelude.{IfErr, OnErr}
 use Rattle.std.proofs.lemmas.Bool.Decides.{nat_tests}
 use Rattle.std.proofs.lemmas.List.{take_all, take_rest}
 use Rattle.memchr.specs.Find.{IsFirstByte, is_byte}
-use Rattle.mme_core.specs.World.{World}
+use Rattle.mme_core.specs.World.{World, happens}
+use Rattle.mme_core.specs.declared.event.Event.TheVariants as event
 use Rattle.emm_machine.specs.declared.subscriber.States.{States}
 use Rattle.trace_words.specs.Trace.{◌>>=◌, line_of}
 use Rattle.trace_words.specs.declared.fault.TraceFault.{TraceFault}
 use Rattle.trace_words.specs.declared.fault.TraceFault.TheVariants as faults
 use Rattle.trace_words.specs.declared.line.Line.{Line}
-use Rattle.trace_words.specs.declared.line.Line.TheVariants.{Show}
+use Rattle.trace_words.specs.declared.line.Line.TheVariants.{In, Show}
 use Rattle.trace_answers.specs.Words.{states_text}
 use Rattle.trace_progress.specs.declared.fault.PlayFault.{PlayFault}
 use Rattle.trace_progress.specs.declared.fault.PlayFault.TheVariants as play_fault
 use Rattle.trace_progress.specs.declared.progress.Progress.{Progress}
 use Rattle.trace_progress.specs.declared.progress.Progress.TheVariants.{Nothing, Provisioning, Running}
 use Rattle.trace_progress.specs.Acts.{Acts}
-use Rattle.trace_progress.specs.Effects.{Effect, effect_of, left, running, shown, states_of_imsi, states_shown}
+use Rattle.trace_progress.specs.Effects.{Effect, effect_of, happened, in_event, left, running, shown, states_of_imsi, states_shown}
 use Rattle.trace_progress.specs.Text.{Played, breaks, line_effect, lines_of, play, prepended, then_play}
 use Rattle.trace_progress.specs.TextLaws.{breaks-append, lines_of-at, play-cons, prepended-then, split_at}
 use Rattle.c_session.specs.declared.refusal.Refusal.{Refusal}
@@ -29,8 +30,8 @@ use Rattle.c_session.specs.Kept.{Reply}
 use Rattle.c_session.specs.Refusals.{of_field, of_line, told}
 use Rattle.c_session.specs.Refusals as c_refusals
 use Rattle.c_session.specs.Sessions.{Starts, started, with_world}
-use Rattle.c_session.specs.Texts.{Adds, ArePlayed, HasFault, HasPassed, IsCut, IsFor, IsLostThere, IsPassed, IsUntaken, PlaysText, Says, StopsAt, StopsIn, WorldSays, events_in, events_of, first_events, first_of_text, line_stop, lines_effect, silent, undone, whole_lines, with_front}
-use Rattle.c_session.proofs.Said.{Adds-none, Adds-same, Adds-then}
+use Rattle.c_session.specs.Texts.{Adds, ArePlayed, HasFault, HasPassed, IsCut, IsFor, IsLostThere, IsPassed, IsUntaken, PlaysText, Says, StopsAt, StopsIn, WorldSays, events_in, events_of, first_events, first_of_text, line_stop, lines_effect, once, silent, undone, whole_lines, with_front}
+use Rattle.c_session.proofs.Saying.{Adds-none, Adds-same, Adds-then}
 
 -- ---- the whole lines of a text
 
@@ -83,7 +84,7 @@ lines_effect-cons : (p : Progress) (text : List ℕ) (texts : List (List ℕ))
 unfolding lines_effect
 lines_effect-cons p text texts = refl
 
-of_pair : Progress → List ℕ → Effect
+abbrev of_pair : Progress → List ℕ → Effect
 of_pair p v = Ok (p, v)
 
 -- what comes before is written before
@@ -96,34 +97,44 @@ one_effect p new x t e =
     let k : Progress × List ℕ → Effect = λ done. with_front done.1 (lines_effect done.0 []) in
     lines_effect-cons p x [] ∙ ap (λ v. v >>= k) e ∙ ap (with_front t) (lines_effect-nil new) ∙ ap (of_pair new) (append-nil t)
 
+plain_front : (e : Effect) → e ≡ with_front [] e
+plain_front (Ok done) = refl
+plain_front (Err fault) = refl
+
 -- some lines and then others
+abbrev GoesOn : List (List ℕ) → List (List ℕ) → Type 0
+GoesOn xs ys = (p q : Progress) (v : List ℕ) → lines_effect p xs ≡ Ok (q, v)
+    → lines_effect p (xs ++ ys) ≡ with_front v (lines_effect q ys)
+
+goes_on_after : (xs ys : List (List ℕ)) → GoesOn xs ys → (mid : Progress) (s : List ℕ) (p : Progress) (t : List ℕ) (e : Effect)
+    → lines_effect p xs ≡ e
+    → with_front t e ≡ Ok (mid, s)
+    → with_front t (lines_effect p (xs ++ ys)) ≡ with_front s (lines_effect mid ys)
+goes_on_after xs ys later mid s p t (Ok done) is k =
+    let pair : (done.0, t ++ done.1) ≡ (mid, s) = cc k in
+    let m : done.0 ≡ mid = ap (λ (v : Progress × List ℕ). v.0) pair in
+    let w : t ++ done.1 ≡ s = ap (λ (v : Progress × List ℕ). v.1) pair in
+    ap (with_front t) (later p done.0 done.1 is) ∙ fronts t done.1 (lines_effect done.0 ys)
+    ∙ ap (λ v. with_front v (lines_effect done.0 ys)) w ∙ ap (λ q. with_front s (lines_effect q ys)) m
+goes_on_after xs ys later mid s p t (Err fault) is k = absurd (cc k)
+
+goes_on_then : (xs ys : List (List ℕ)) → GoesOn xs ys → (mid : Progress) (s : List ℕ) (e : Effect)
+    → e >>= (λ done. with_front done.1 (lines_effect done.0 xs)) ≡ Ok (mid, s)
+    → e >>= (λ done. with_front done.1 (lines_effect done.0 (xs ++ ys))) ≡ with_front s (lines_effect mid ys)
+goes_on_then xs ys later mid s (Ok first) k = goes_on_after xs ys later mid s first.0 first.1 (lines_effect first.0 xs) refl k
+goes_on_then xs ys later mid s (Err fault) k = absurd (cc k)
+
 more_effect : (xs ys : List (List ℕ)) (old mid : Progress) (s : List ℕ) → lines_effect old xs ≡ Ok (mid, s)
     → lines_effect old (xs ++ ys) ≡ with_front s (lines_effect mid ys)
 more_effect [] ys old mid s h =
-    let e : Ok (old, []) ≡ Ok (mid, s) = sym (lines_effect-nil old) ∙ h in
-    let same : old ≡ mid = cc e in
-    let none : [] ≡ s = cc e in
-    ap (λ p. lines_effect p ys) same ∙ plain (lines_effect mid ys) ∙ ap (λ v. with_front v (lines_effect mid ys)) none
-  where
-    plain : (e : Effect) → e ≡ with_front [] e
-    plain (Ok done) = refl
-    plain (Err fault) = refl
+    let e : of_pair old [] ≡ of_pair mid s = sym (lines_effect-nil old) ∙ h in
+    let pair : (old, []) ≡ (mid, s) = cc e in
+    let same : old ≡ mid = ap (λ (v : Progress × List ℕ). v.0) pair in
+    let none : [] ≡ s = ap (λ (v : Progress × List ℕ). v.1) pair in
+    ap (λ p. lines_effect p ys) same ∙ plain_front (lines_effect mid ys) ∙ ap (λ v. with_front v (lines_effect mid ys)) none
 more_effect (x ∷ xs) ys old mid s h =
-    lines_effect-cons old x (xs ++ ys) ∙ by (line_effect old x) (sym (lines_effect-cons old x xs) ∙ h)
-  where
-    inner : (first : Progress × List ℕ) (e : Effect) → lines_effect first.0 xs ≡ e → with_front first.1 e ≡ Ok (mid, s)
-        → with_front first.1 (lines_effect first.0 (xs ++ ys)) ≡ with_front s (lines_effect mid ys)
-    inner first (Ok done) is k =
-        let m : done.0 ≡ mid = cc k in
-        let w : first.1 ++ done.1 ≡ s = cc k in
-        ap (with_front first.1) (more_effect xs ys first.0 done.0 done.1 is)
-        ∙ fronts first.1 done.1 (lines_effect done.0 ys)
-        ∙ ap (λ v. with_front v (lines_effect done.0 ys)) w ∙ ap (λ p. with_front s (lines_effect p ys)) m
-    inner first (Err fault) is k = absurd (cc k)
-    by : (e : Effect) → e >>= (λ done. with_front done.1 (lines_effect done.0 xs)) ≡ Ok (mid, s)
-        → e >>= (λ done. with_front done.1 (lines_effect done.0 (xs ++ ys))) ≡ with_front s (lines_effect mid ys)
-    by (Ok first) k = inner first (lines_effect first.0 xs) refl k
-    by (Err fault) k = absurd (cc k)
+    lines_effect-cons old x (xs ++ ys)
+    ∙ goes_on_then xs ys (λ p q v g. more_effect xs ys p q v g) mid s (line_effect old x) (sym (lines_effect-cons old x xs) ∙ h)
 
 pub none_played : (p : Progress) → ArePlayed p [] p []
 none_played p = record {
@@ -241,7 +252,7 @@ says_read p text line s new room said said' result (inr is) h =
 
 -- a line that isn't
 pub says_unread : (p : Progress) (text : List ℕ) (fault : TraceFault) (s : Session) (room : ℕ) (said : List ℕ)
-    → (Err fault ≡ Err faults.NoMemory) ⊎ (Err fault ≡ line_of text)
+    → ◌≡◌ {A = Result Line TraceFault} (Err fault) (Err faults.NoMemory) ⊎ (Err fault ≡ line_of text)
     → Says (line_effect p text) (first_of_text p text) (events_of (line_of text)) s room said (Err (undone (of_line fault))) s said
 says_unread p text fault s room said (inl memory) =
     let m : fault ≡ faults.NoMemory = cc memory in
@@ -418,3 +429,69 @@ says_no_room s mid w imsi states room said said' refusal starts is e why same =
       }))),
       Adds-none room said said' same,
     )
+
+-- ---- the octets that a station sends
+
+-- the same in other words
+says_same : (effect effect' : Effect) (first first' : ℕ → Effect) (most : ℕ) (s new : Session) (room : ℕ) (said said' : List ℕ)
+    (result : Result (Unit {0}) LineStop) → effect ≡ effect' → ((n : ℕ) → first n ≡ first' n)
+    → Says effect first most s room said result new said' → Says effect' first' most s room said result new said'
+says_same effect effect' first first' most s new room said said' (Ok _) e f h = (h.0, sym e ∙ h.1, h.2)
+says_same effect effect' first first' most s new room said said' (Err stop) e f h = (h.0, by h.1, h.2)
+  where
+    started' : (new.progress ≡ s.progress) ⊎ (first 0 ≡ Ok (new.progress, []))
+        → (new.progress ≡ s.progress) ⊎ (first' 0 ≡ Ok (new.progress, []))
+    started' (inl same) = inl same
+    started' (inr runs) = inr (sym (f 0) ∙ runs)
+    by : StopsAt effect first most s stop room said' new h.0 → StopsAt effect' first' most s stop room said' new h.0
+    by (inl own) = inl (record {
+      fault = own.fault;
+      why = own.why;
+      owed = sym e ∙ own.owed;
+      undone = own.undone;
+      leaves = started' own.leaves;
+    })
+    by (inr (inl untaken)) = inr (inl untaken)
+    by (inr (inr (inl lost))) = inr (inr (inl lost))
+    by (inr (inr (inr cut))) = inr (inr (inr (record {
+      before = cut.before;
+      after = cut.after;
+      next = cut.next;
+      within = cut.within;
+      passed = sym (f stop.taken) ∙ cut.passed;
+      coming = sym (f (stop.taken + 1)) ∙ cut.coming;
+      why = cut.why;
+      leaves = cut.leaves;
+    })))
+
+-- where octets lie in memory is nothing to the MME
+once_octets : (w : World) (e : ℕ) (slice : Bor (List ℕ)) (n : ℕ)
+    → once w (event.In e slice) n ≡ once w (in_event e slice.now) n
+unfolding happens
+once_octets w e slice zero = refl
+once_octets w e slice (suc n) = refl
+
+first_octets : (p : Progress) (e : ℕ) (slice : Bor (List ℕ)) (octets : List ℕ) → slice.now ≡ octets → (n : ℕ)
+    → running p >>= (λ w. left (once w (event.In e slice) n)) ≡ first_events p (In e octets) n
+first_octets p e slice octets same n =
+    by (running p) ∙ ap (λ v. running p >>= (λ w. left (once w (in_event e v) n))) same
+  where
+    by : (r : Result World TraceFault)
+        → r >>= (λ w. left (once w (event.In e slice) n)) ≡ r >>= (λ w. left (once w (in_event e slice.now) n))
+    by (Ok w) = ap left (once_octets w e slice n)
+    by (Err fault) = refl
+
+effect_of-in : (p : Progress) (e : ℕ) (slice : Bor (List ℕ)) (octets : List ℕ) → slice.now ≡ octets
+    → happened p (event.In e slice) ≡ effect_of p (In e octets)
+unfolding effect_of
+effect_of-in p e slice octets same = first_octets p e slice octets same 1
+
+pub says_octets : (p : Progress) (e : ℕ) (slice : Bor (List ℕ)) (octets : List ℕ) (line : Line) (s new : Session) (room : ℕ)
+    (said said' : List ℕ) (result : Result (Unit {0}) LineStop) → slice.now ≡ octets → line ≡ In e octets
+    → Says (happened p (event.In e slice)) (λ n. running p >>= (λ w. left (once w (event.In e slice) n))) 1 s room said result new said'
+    → Says (effect_of p line) (first_events p line) (events_in line) s room said result new said'
+says_octets p e slice octets line s new room said said' result same is h =
+    subst (λ (l : Line). Says (effect_of p l) (first_events p l) (events_in l) s room said result new said') (sym is)
+    (says_same (happened p (event.In e slice)) (effect_of p (In e octets)) (λ n. running p >>= (λ w. left (once w (event.In e slice) n)))
+    (first_events p (In e octets)) 1 s new room said said' result (effect_of-in p e slice octets same)
+    (first_octets p e slice octets same) h)

@@ -88,19 +88,23 @@ abbrev pub once : World → Event → ℕ → World × List ℕ
 once world event zero = (world, [])
 once world event (suc n) = event_played world event
 
--- what the first n events of a line leave and write, a question for one; with none of them the MME runs, where the line is for one
+-- what the first n events of a line leave and write, of which `first` says it for the MME that the line speaks to
+abbrev pub first_taken : Progress → (World → ℕ → World × List ℕ) → ℕ → Effect
+first_taken progress first n = running progress >>= (λ world. left (first world n))
+
+-- the same of each line, of a question as of one event; with none of them the MME runs, where the line is for one
 abbrev pub first_events : Progress → Line → ℕ → Effect
 first_events progress Skip n = Ok (progress, [])
 first_events progress (Mme network) n = Ok (progress, [])
 first_events progress (Sub profile) n = Ok (progress, [])
 first_events progress (Vec imsi vector) n = Ok (progress, [])
-first_events progress (Up e) n = running progress >>= (λ world. left (once world (event.Up e) n))
-first_events progress (Lost e) n = running progress >>= (λ world. left (once world (event.Lost e) n))
-first_events progress (In e octets) n = running progress >>= (λ world. left (once world (in_event e octets) n))
-first_events progress (Tick count) n = running progress >>= (λ world. left (ticked n world))
-first_events progress (Data imsi) n = running progress >>= (λ world. left (once world (event.Data imsi) n))
-first_events progress (Cancel imsi) n = running progress >>= (λ world. left (once world (event.Cancel imsi) n))
-first_events progress (Show imsi) zero = running progress >>= (λ world. left (world, []))
+first_events progress (Up e) n = first_taken progress (λ world. once world (event.Up e)) n
+first_events progress (Lost e) n = first_taken progress (λ world. once world (event.Lost e)) n
+first_events progress (In e octets) n = first_taken progress (λ world. once world (in_event e octets)) n
+first_events progress (Tick count) n = first_taken progress (λ world m. ticked m world) n
+first_events progress (Data imsi) n = first_taken progress (λ world. once world (event.Data imsi)) n
+first_events progress (Cancel imsi) n = first_taken progress (λ world. once world (event.Cancel imsi)) n
+first_events progress (Show imsi) zero = first_taken progress (λ world n. (world, [])) 0
 first_events progress (Show imsi) (suc n) = shown progress imsi
 
 -- how many events a line has, a question for one

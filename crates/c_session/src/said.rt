@@ -188,7 +188,7 @@ fn say_event(
 }
 
 /// The one event of a line, and its answers.
-#[tactic(auto, using(crate::proofs::Said::once_said, crate::proofs::Said::once_short))]
+#[tactic(auto, using(crate::proofs::Saying::once_said))]
 pub(crate) fn say_once(
     alloc: Global,
     mme: &mut Mme,

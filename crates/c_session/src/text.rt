@@ -1,11 +1,10 @@
 //! The whole lines of a text, played one after another, with their answers as `mme play` prints them.
 
-ghost use Rattle.std.specs.Prelude.{◌≡◌, []};
-ghost use Rattle.mme_core.specs.World.{World};
-ghost use Rattle.trace_words.specs.Trace.{◌>>=◌, line_of};
-ghost use Rattle.trace_progress.specs.Effects.{effect_of, happened, left, running, shown, ticked, ticks_passed};
+ghost use Rattle.std.specs.Prelude.{◌≡◌};
+ghost use Rattle.trace_words.specs.Trace.{line_of};
+ghost use Rattle.trace_progress.specs.Effects.{effect_of, happened, shown, ticked, ticks_passed};
 ghost use Rattle.trace_progress.specs.Text.{line_effect};
-ghost use Rattle.c_session.specs.Texts.{PlaysText, Says, events_in, events_of, first_events, first_of_text, once, silent, undone};
+ghost use Rattle.c_session.specs.Texts.{PlaysText, Says, events_in, events_of, first_events, first_of_text, first_taken, once, silent, undone};
 
 use crate::refusal::{Refusal, of_line, told};
 use crate::said::{LineStop, push_answer, say_once, say_ticks};
@@ -87,6 +86,7 @@ impl Session {
     }
 
     /// Plays one line, given without its LF.
+    #[tactic(auto, using(crate::proofs::Texts::says_read, crate::proofs::Texts::says_unread))]
     fn say_text(
         &mut self,
         alloc: Global,
@@ -104,6 +104,7 @@ impl Session {
     }
 
     /// Does what a line says.
+    #[tactic(auto, using(crate::proofs::Texts::says_silent), unfolding(trace_progress::specs::Effects::effect_of))]
     fn say_line(
         &mut self,
         alloc: Global,
@@ -140,7 +141,7 @@ impl Session {
         answers: &mut Vec<u8>,
     ) -> Result<(), LineStop>
         ensures { Says (happened self.old.progress event.now)
-            (λ n. running self.old.progress >>= (λ (w : World). left (once w event.now n))) 1 self.old room answers.old.items
+            (first_taken self.old.progress (λ w. once w event.now)) 1 self.old room answers.old.items
             result self.new answers.new.items }
     {
         match self.start(alloc) {
@@ -162,7 +163,7 @@ impl Session {
         answers: &mut Vec<u8>,
     ) -> Result<(), LineStop>
         ensures { Says (ticks_passed self.old.progress count)
-            (λ n. running self.old.progress >>= (λ (w : World). left (ticked n w))) count self.old room answers.old.items result
+            (first_taken self.old.progress (λ w n. ticked n w)) count self.old room answers.old.items result
             self.new answers.new.items }
     {
         match self.start(alloc) {
@@ -176,6 +177,7 @@ impl Session {
     }
 
     /// The states of the subscriber of an IMSI, in the MME that the line speaks to.
+    #[tactic(auto, using(crate::proofs::Texts::says_states, crate::proofs::Texts::says_unknown, crate::proofs::Texts::says_no_room))]
     fn say_states(
         &mut self,
         alloc: Global,

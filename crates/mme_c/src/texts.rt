@@ -48,7 +48,10 @@ fn held(alloc: Global, mme: &mut MmeHandle) -> Option<Box<Session>>
 {
     match mme.take(alloc) {
         Some(session) => Some(session),
-        None => Box::new(alloc, Session::new(alloc)).ok(),
+        None => match Box::new(alloc, Session::new(alloc)) {
+            Ok(session) => Some(session),
+            Err(_) => None,
+        },
     }
 }
 

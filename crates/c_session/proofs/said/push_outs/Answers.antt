@@ -1,13 +1,13 @@
 use Rattle.std.proofs.Common.{refl, arith}
 use Rattle.trace_answers.specs.Words.{answers_of}
 use Rattle.std.proofs.Common.{take}
-use Rattle.c_session.proofs.Said.{Adds-none, Adds-out, cut_back, no_room_for_all}
+use Rattle.c_session.proofs.Saying.{Adds-none, Adds-out, cut_back, no_room_for_all}
 use Rattle.c_session.proofs.said.push_outs.Goals as goal
 
 pub returns-in-Err-clause-unsaid : goal.returns-in-Err-clause-unsaid
 returns-in-Err-clause-unsaid c =
     cut_back c.args.room c.len-before.result c.args.answers.now.items (answers_of (take c.loop-out.out-index c.args.outs.now)) c.loop-out.answers.items c.push_out.new.answers.items c.truncate.new.self.items
-    c.loop-out.invariant.added c.in-Err.ensures.unsaid c.len-before.ensures c.truncate.ensures.items
+    c.loop-out.invariant.added c.in-Err.ensures.unsaid c.loop-out.invariant.length c.truncate.ensures.items
 
 pub returns-in-Err-clause-why : goal.returns-in-Err-clause-why
 returns-in-Err-clause-why c =
@@ -23,6 +23,6 @@ loop-out-preserved c = record {
 
 pub loop-out-init : goal.loop-out-init
 loop-out-init c = record {
-  length = c.len-before.ensures;
+  length = omega (arith, c.len-before.ensures, c.args.answers.now.ok.0);
   added = Adds-none c.args.room c.args.answers.now.items c.args.answers.now.items refl;
 }

@@ -5,7 +5,7 @@ use Rattle.trace_progress.specs.Effects.{ticked}
 use Rattle.trace_progress.specs.Replies.{reply_text}
 use Rattle.c_session.specs.Texts.{HasPassed}
 use Rattle.c_session.specs.declared.said.LineStop.{LineStop}
-use Rattle.c_session.proofs.Said.{Adds-none, Adds-same, Adds-then}
+use Rattle.c_session.proofs.Saying.{Adds-none, Adds-same, Adds-then}
 use Rattle.c_session.proofs.SaidTicks.{Ticking-end, Ticking-refused, Ticking-start, Ticking-tick, ticks_short}
 use Rattle.c_session.proofs.said.say_ticks.Goals as goal
 

@@ -1,7 +1,7 @@
 use Rattle.std.proofs.Common.{◌≤◌, ◌+◌, length}
 use Rattle.c_session.specs.Texts.{whole_lines}
 use Rattle.c_session.proofs.Texts.{HasPlayed}
-use Rattle.c_session.proofs.text.Session.play_text.Given as goal
+use Rattle.c_session.proofs.session.Session.play_text.Given as goal
 
 abbrev pub invariant-loop-at : goal.invariant-loop-at
 invariant-loop-at l = record {

@@ -1,7 +1,7 @@
 use Rattle.std.proofs.Common.{ℕ, arith, length-take, length-drop}
 use Rattle.c_session.proofs.Texts.{all_played, line_played, line_stops_text, start_playing}
 use Rattle.c_session.specs.Texts.{whole_lines}
-use Rattle.c_session.proofs.text.Session.play_text.Goals as goal
+use Rattle.c_session.proofs.session.Session.play_text.Goals as goal
 
 pub loop-at-init : goal.loop-at-init
 loop-at-init c = record {
