@@ -1,5 +1,5 @@
 -- Lines that are played, one after another.
-use Rattle.std.proofs.Common.{◌≡◌, ◌⊎◌, inl, inr, ℕ, zero, suc, ◌+◌, ◌-◌, ◌<◌, ◌≤◌, ◌==◌, Bool, true, false, List, [], ◌∷◌, ◌++◌, length, take, drop, get_or, Option, None, Some, Result, Ok, Err, Bor, refl, sym, subst, ap, ◌∙◌, arith, append-nil, append_assoc, length-append}
+use Rattle.std.proofs.Common.{◌≡◌, ◌⊎◌, inl, inr, ℕ, zero, suc, ◌+◌, ◌-◌, ◌<◌, ◌≤◌, ◌==◌, Bool, true, false, List, [], ◌∷◌, ◌++◌, length, take, drop, get_or, None, Some, Result, Ok, Err, Bor, refl, sym, subst, ap, ◌∙◌, arith, append-nil, append_assoc, length-append}
 use Rattle.std.specs.Prelude.{IfErr, OnErr}
 use Rattle.std.proofs.lemmas.Bool.Decides.{nat_tests}
 use Rattle.std.proofs.lemmas.List.{take_all, take_rest}
@@ -16,7 +16,7 @@ use Rattle.trace_answers.specs.Words.{states_text}
 use Rattle.trace_progress.specs.declared.fault.PlayFault.{PlayFault}
 use Rattle.trace_progress.specs.declared.fault.PlayFault.TheVariants as play_fault
 use Rattle.trace_progress.specs.declared.progress.Progress.{Progress}
-use Rattle.trace_progress.specs.declared.progress.Progress.TheVariants.{Nothing, Provisioning, Running}
+use Rattle.trace_progress.specs.declared.progress.Progress.TheVariants.{Running}
 use Rattle.trace_progress.specs.Acts.{Acts}
 use Rattle.trace_progress.specs.Effects.{Effect, effect_of, happened, in_event, left, running, shown, states_of_imsi, states_shown}
 use Rattle.trace_progress.specs.Text.{Played, breaks, line_effect, lines_of, play, prepended, then_play}
@@ -25,13 +25,12 @@ use Rattle.c_session.specs.declared.refusal.Refusal.{Refusal}
 use Rattle.c_session.specs.declared.refusal.Refusal.TheVariants as refusals
 use Rattle.c_session.specs.declared.said.LineStop.{LineStop}
 use Rattle.c_session.specs.declared.session.Session.{Session}
-use Rattle.c_session.specs.declared.text.Stop.{Stop}
 use Rattle.c_session.specs.Kept.{Reply}
 use Rattle.c_session.specs.Refusals.{of_field, of_line, told}
 use Rattle.c_session.specs.Refusals as c_refusals
 use Rattle.c_session.specs.Sessions.{Starts, started, with_world}
-use Rattle.c_session.specs.Texts.{Adds, ArePlayed, HasFault, HasPassed, IsCut, IsFor, IsLostThere, IsPassed, IsUntaken, PlaysText, Says, StopsAt, StopsIn, WorldSays, events_in, events_of, first_events, first_of_text, line_stop, lines_effect, once, silent, undone, whole_lines, with_front}
-use Rattle.c_session.proofs.Saying.{Adds-none, Adds-same, Adds-then}
+use Rattle.c_session.specs.Texts.{Adds, ArePlayed, IsFor, IsPassed, PlaysText, Says, StopsAt, WorldSays, events_in, events_of, first_events, first_of_text, lines_effect, once, silent, undone, whole_lines, with_front}
+use Rattle.c_session.proofs.Saying.{Adds-none, Adds-then}
 
 -- ---- the whole lines of a text
 

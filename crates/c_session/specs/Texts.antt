@@ -10,7 +10,7 @@ use Rattle.trace_words.specs.declared.line.Line.{Line}
 use Rattle.trace_words.specs.declared.line.Line.TheVariants.{Skip, Mme, Sub, Vec, Up, Lost, In, Tick, Data, Cancel, Show}
 use Rattle.trace_answers.specs.Words.{answers_of}
 use Rattle.trace_progress.specs.declared.progress.Progress.{Progress}
-use Rattle.trace_progress.specs.declared.progress.Progress.TheVariants.{Nothing, Running}
+use Rattle.trace_progress.specs.declared.progress.Progress.TheVariants.{Nothing}
 use Rattle.trace_progress.specs.Acts.{IsIdle}
 use Rattle.trace_progress.specs.Effects.{Effect, event_played, in_event, left, running, shown, ticked}
 use Rattle.trace_progress.specs.Replies.{reply_text}

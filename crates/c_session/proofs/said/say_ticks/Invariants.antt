@@ -1,4 +1,4 @@
-use Rattle.std.proofs.Common.{◌≡◌, ℕ, List}
+use Rattle.std.proofs.Common.{ℕ, List}
 use Rattle.c_session.specs.Texts.{Adds}
 use Rattle.c_session.proofs.SaidTicks.{Ticking}
 use Rattle.c_session.proofs.said.say_ticks.Given as goal
