@@ -14,7 +14,7 @@ use std::alloc::Global;
 use trace_answers::{Answer, sent_line, write_answer};
 
 /// Why an event isn't answered: there was no memory, or no room for its answers. Where it was taken, these are the replies.
-#[derive(Clone, Copy, Debug, PartialEq, Eq)]
+#[derive(Clone, Copy)]
 pub(crate) struct Short {
     pub(crate) unsaid: bool,
     pub(crate) refusal: Refusal,
@@ -22,7 +22,7 @@ pub(crate) struct Short {
 
 /// Where a line isn't played to its end: how many of its events were taken and answered, whether one more was taken that isn't
 /// answered, and why.
-#[derive(Clone, Copy, Debug, PartialEq, Eq)]
+#[derive(Clone, Copy)]
 pub(crate) struct LineStop {
     pub(crate) taken: u32,
     pub(crate) unsaid: bool,
