@@ -86,7 +86,7 @@ impl Session {
     }
 
     /// Plays one line, given without its LF.
-    #[tactic(auto, using(crate::proofs::Texts::says_read, crate::proofs::Texts::says_unread))]
+    #[tactic(auto, using(crate::proofs::Texts::says_read))]
     fn say_text(
         &mut self,
         alloc: Global,
@@ -177,7 +177,7 @@ impl Session {
     }
 
     /// The states of the subscriber of an IMSI, in the MME that the line speaks to.
-    #[tactic(auto, using(crate::proofs::Texts::says_states, crate::proofs::Texts::says_unknown, crate::proofs::Texts::says_no_room))]
+    #[tactic(auto, using(crate::proofs::Texts::says_states))]
     fn say_states(
         &mut self,
         alloc: Global,
