@@ -75,14 +75,13 @@ _WORDS = {
 
 
 class Refused(Exception):
-    """A call was refused; what it was made on is as it was, but for the lines that `Mme.play_text` has played before."""
+    """A call was refused; what it was made on is as it was."""
 
     refusal: Refusal
-    line: int | None  # of lines, the one that was refused, from 1
-    answers: bytes  # to the lines before, of `Mme.play_text`
+    line: int | None  # of provisioning lines, the one that was refused, from 1
 
-    def __init__(self, refusal: int, line: int | None = None, answers: bytes = b"") -> None:
-        self.refusal, self.line, self.answers = Refusal(refusal), line, answers
+    def __init__(self, refusal: int, line: int | None = None) -> None:
+        self.refusal, self.line = Refusal(refusal), line
         where = "" if line is None else "line %d: " % line
         super().__init__("%s%s (%s)" % (where, self.refusal.words, self.refusal.name))
 

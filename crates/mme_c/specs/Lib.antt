@@ -2,4 +2,3 @@ pub mod Asked
 pub mod Calls
 pub mod Codecs
 pub mod Ownership
-pub mod Texts

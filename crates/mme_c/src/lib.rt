@@ -12,7 +12,6 @@ mod loose;
 mod numbers;
 mod provisioning;
 mod replies;
-mod texts;
 
 pub use codecs::{
     MessageIds, NasForm, Release, soizkadur_eia2, soizkadur_kenb, soizkadur_nas,
@@ -33,4 +32,3 @@ pub use replies::{
     Output, SubscriberStates, soizkadur_count, soizkadur_out, soizkadur_replies,
     soizkadur_slot_of_imsi, soizkadur_states,
 };
-pub use texts::{TextPlayed, soizkadur_play};
