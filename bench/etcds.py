@@ -87,8 +87,11 @@ class Members:
         self.processes[place].wait()
 
     def pause(self, place):
-        self.processes[place].send_signal(signal.SIGSTOP)
-        self.paused.add(place)
+        """Pauses a member, unless it is paused: all of its threads have stopped then."""
+        if place not in self.paused:
+            self.processes[place].send_signal(signal.SIGSTOP)
+            os.waitid(os.P_PID, self.processes[place].pid, os.WSTOPPED)
+            self.paused.add(place)
 
     def wake(self, place):
         self.processes[place].send_signal(signal.SIGCONT)
