@@ -1,0 +1,100 @@
+"""A log whose lines of provisioning all stand in its head, for `mme play`, which skips those that were given where they stand.
+
+`mme play` answers it as its run was answered, if each vector came before its phone had none left, and each subscriber before a
+message named it. Whether that is so is found by the model of tools/explain, which plays the log with these lines where they stand,
+and with all of them in its head.
+"""
+import collections
+import functools
+
+from tools import runs
+from tools.eps import macs
+from tools.eps.telling import BriefNow
+from tools.eps.world import World
+
+from tools.fronting import limits
+
+FURTHER, SEGMENT = runs.FURTHER.encode(), b"# segment "
+KEPT = 1 << 10  # MACs of which it is known whether they are right
+TOO_MANY = "%s would have %d vectors in the head, and `mme play` takes %d: the library alone plays this log"
+OTHERWISE = "line %d, as it is printed here, is answered otherwise than it was, to %s: what was given later is there already"
+GROWN = "the log has grown meanwhile: begin again"
+
+
+class Gathered:
+    """A log, by what gives its lines, each with its end, from the first on: `head` has those of the head, and `further` those that
+    were given since."""
+
+    def __init__(self, read):
+        self.read, self.head, self.further, is_head = read, [], [], True
+        for line in read():
+            is_head = is_head and not line.startswith(SEGMENT)
+            if is_head:
+                self.head.append(line)
+            elif line.startswith(FURTHER):
+                self.further.append(line[len(FURTHER):])
+        self.check_vectors()
+
+    @property
+    def facts(self):
+        """The lines of provisioning that it began with."""
+        return [line.rstrip(b"\n") for line in self.head if line.strip() and not line.startswith(b"#")]
+
+    def check_vectors(self):
+        """Refuses a log whose head a program doesn't take."""
+        lines = self.facts + self.further
+        counts = collections.Counter(line.split(b" ")[1].decode("latin-1") for line in lines if line.startswith(b"vec "))
+        for imsi, count in counts.items():
+            if count > limits.MOST_UNSPENT:
+                raise runs.Fault(TOO_MANY % (imsi, count, limits.MOST_UNSPENT))
+
+    def rest(self):
+        """The lines after the head, with those that were given."""
+        is_head, count = True, 0
+        for line in self.read():
+            is_head = is_head and not line.startswith(SEGMENT)
+            if not is_head:
+                count += line.startswith(FURTHER)
+                yield line
+        if count != len(self.further):
+            raise runs.Fault(GROWN)
+
+    def lines(self):
+        """The log, with all of these in its head."""
+        yield from self.head
+        yield from self.further
+        yield from (line for line in self.rest() if not line.startswith(FURTHER))
+
+    def differences(self):
+        """The first line that is answered otherwise now, in words, for each owner of messages."""
+        is_right, further = functools.lru_cache(KEPT)(macs.is_right), [line.rstrip(b"\n") for line in self.further]
+        before, after = (World(facts, is_right, BriefNow) for facts in (self.facts, self.facts + further))
+        number, given, known = len(self.head) + len(further), 0, set()
+        for line in self.rest() if further else ():
+            if line.startswith(FURTHER):
+                before.lengthen(further[given:given + 1])
+                given += 1
+                if given == len(further):
+                    return
+                continue
+            number += 1
+            found = [owner for owner in owners(*(answers(world, number, line) for world in (before, after))) if owner not in known]
+            known.update(found)
+            if found:
+                yield OTHERWISE % (number, " and ".join(runs.owner_text(owner, list(after.by_imsi)) for owner in found))
+
+
+def answers(world, number, line):
+    """What a line is answered: a state or a refusal, and messages."""
+    text = line.decode("latin-1").rstrip("\n")
+    if not text or text.startswith("#"):
+        return None, []
+    word, *fields = text.split(" ")
+    answer, sent, _ = world.take(runs.event_of(number, word, fields))
+    return answer, sent
+
+
+def owners(before, after):
+    """Who is answered otherwise, of two answers."""
+    pairs = (before[1], after[1]), (after[1], before[1])
+    return list(dict.fromkeys(each.owner for sent, other in pairs for each in sent if each not in other))
