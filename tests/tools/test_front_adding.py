@@ -391,8 +391,8 @@ class Standing(unittest.TestCase):
                     self.assertEqual(standing.further, [SUB, line])
                     [batch] = standing.tail_batches(lambda entry: entry)
                     self.assertEqual(batch.lines, form.written(self.LINES[settled:]))
-                    self.assertEqual(resuming.facts_in(self.log)[:2], HEAD.splitlines())
-                    self.assertLessEqual({SUB, line}, set(resuming.facts_in(self.log)))
+                    self.assertEqual(resuming.facts_in(self.log, [])[:2], HEAD.splitlines())
+                    self.assertLessEqual({SUB, line}, set(resuming.facts_in(self.log, [])))
 
     def test_by_a_program(self):
         """A program that can't play it isn't given it: what to do is said."""
@@ -409,7 +409,35 @@ class Standing(unittest.TestCase):
         self.LINES.insert(1, "in 0 000c00")
         self.addCleanup(self.LINES.remove, "in 0 000c00")
         self.write(0)
-        self.assertIn(vector(OTHER, 1), resuming.perhaps_used(self.log))
+        self.assertIn(vector(OTHER, 1), resuming.perhaps_used(self.log, []))
+
+    def begun_anew(self, head, *words):
+        """The vectors that count as used once a run begins anew, after a log of an earlier boot or without its LOG.used."""
+        folder = pathlib.Path(self.log).parent
+        (folder / "subscribers").write_text(head)
+        words = ["--tcp", "--port", "0", "--mme", "/bin/false", "--keep", "1", *words]
+        told = said(["run", folder / "subscribers", self.log, *words])[1]
+        self.assertIn("front: the MME ended with status 1\n", told)
+        return (folder / "log.used").read_text().splitlines()
+
+    def test_a_beginning_that_is_lost(self):
+        """Where no segment has the head that a log began with, what counts has it; where that is lost too, all vectors of the
+        subscribers' file count as used, and those that were given."""
+        self.LINES.insert(1, "in 0 000c00")
+        self.addCleanup(self.LINES.remove, "in 0 000c00")
+        head, other = HEAD + vector(IMSI, 7) + "\n", HEAD + vector(IMSI, 8) + "\n"
+        entries = [" ".join(vector(*given).split(" ")[1:3]) for given in ((OTHER, 1), (IMSI, 7), (IMSI, 8))]
+        for lost, used in (((), entries[:2]), (("log",), entries[:2]), (("log", "log.counts"), entries[::2])):
+            for words in (("--resume", "--anew"), ()):
+                with self.subTest(lost=lost, words=words), tempfile.TemporaryDirectory() as folder:
+                    self.log = folder + "/log"
+                    self.write(5, head=head)
+                    for name in lost:
+                        path = pathlib.Path(folder, name)
+                        path.write_text("# segment 2, begun now\n%s" % path.read_text().rpartition("begun ")[2].partition("\n")[2])
+                    if words:
+                        pathlib.Path(folder, "log.unsynced").write_text("another\n")
+                    self.assertEqual(sorted(self.begun_anew(other, *words)), sorted(used))
 
     def test_of_a_log(self):
         """Such a line isn't one of a subscribers' file."""

@@ -84,7 +84,7 @@ class Front:
 
     def put_away(self):
         """The log that stands makes way. Where it isn't known which of its vectors were used, all count as used."""
-        lost = [] if self.used.known else perhaps_used(self.settings.log)
+        lost = [] if self.used.known else perhaps_used(self.settings.log, self.head.facts)
         make_way(self.settings.log, self.settings.keep)
         if lost:
             self.used.add(lost)
@@ -98,7 +98,7 @@ class Front:
         if why and resumes and not self.settings.anew:
             raise Failed("%s (--anew begins with nobody attached)" % why, WRONG)
         if why:
-            self.used.add(facts_in(log) or self.head.facts)
+            self.used.add(facts_in(log, self.head.facts))
             self.voice.say("not_resumed", "the last run isn't resumed, and nobody is attached: %s" % why)
         return resumes and not why and bool(parts_of(log))
 

@@ -118,26 +118,29 @@ def mapped(path):
 
 
 def head_facts(path):
-    """The lines of provisioning that a log begins with, or nothing where that can't be read."""
-    try:
-        older = older_segments(path)
-        octets = pathlib.Path(older[min(older)] if older else path).read_bytes()
-    except OSError:
-        return []
-    found = NUMBERED.search(octets)
-    return octets[:found.start()].decode("latin-1").splitlines() if found else []
+    """The lines of provisioning that a log begins with, by what happened or what counts, or nothing where neither can be read."""
+    for series in (path, path + ".counts", path + GIVEN_UP):
+        with contextlib.suppress(OSError):
+            older = older_segments(series)
+            octets = pathlib.Path(older[min(older)] if older else series).read_bytes()
+            found = NUMBERED.search(octets)
+            head = octets[:found.start()] if found else b""
+            if head and b"\0" not in head:
+                return head.decode("latin-1").splitlines()
+    return []
 
 
-def facts_in(path):
-    """The lines of provisioning that a log begins with, and those that were given since, as far as they can be read."""
+def facts_in(path, others):
+    """The lines of provisioning that a log begins with, and those that were given since, as far as they can be read; of a log
+    whose beginning is lost these others too."""
     parts = [part for part in map(pathlib.Path, parts_of(path).values()) if part.is_file()]
-    return head_facts(path) + [line for part in parts for line in further_in(part.read_bytes())]
+    return (head_facts(path) or others) + [line for part in parts for line in further_in(part.read_bytes())]
 
 
-def perhaps_used(path):
-    """The lines of provisioning of a log with messages of phones, whose vectors were perhaps used."""
+def perhaps_used(path, others):
+    """The same of a log with messages of phones, whose vectors were perhaps used."""
     parts = map(pathlib.Path, parts_of(path).values())
-    return facts_in(path) if any(PHONE.search(part.read_bytes()) for part in parts if part.is_file()) else []
+    return facts_in(path, others) if any(PHONE.search(part.read_bytes()) for part in parts if part.is_file()) else []
 
 
 def own_number(path, octets):
