@@ -439,6 +439,23 @@ class Standing(unittest.TestCase):
                         pathlib.Path(folder, "log.unsynced").write_text("another\n")
                     self.assertEqual(sorted(self.begun_anew(other, *words)), sorted(used))
 
+    def test_a_line_that_is_damaged(self):
+        """A vector that was given and can't be read any more is perhaps one of the subscribers' file, which count as used then. The
+        file with those that were used can be read again."""
+        self.write(0)
+        text = vector(OTHER, 1)
+        for place in (0, 8, 25, len("vec " + OTHER)):
+            with self.subTest(place=place), tempfile.TemporaryDirectory() as folder:
+                path = pathlib.Path(folder, "log")
+                path.write_text("".join([
+                    HEAD, vector(IMSI, 7), "\n# segment 1, begun now\n", runs.FURTHER, SUB, "\nin 0 000c00\n", runs.FURTHER,
+                    text[:place], "\0" * 5, text[place + 5:], "\n"]))
+                pathlib.Path(folder, "log.unsynced").write_text("another\n")
+                self.log = str(path)
+                self.assertEqual(self.begun_anew(HEAD + "\n".join([SUB, text, ""]), "--resume", "--anew"), [
+                    " ".join(line.split(" ")[1:3]) for line in (vector(IMSI, 7), text)])
+                UsedVectors(self.log + ".used").close()
+
     def test_of_a_log(self):
         """Such a line isn't one of a subscribers' file."""
         folder = pathlib.Path(self.log).parent

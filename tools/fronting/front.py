@@ -87,7 +87,7 @@ class Front:
         lost = [] if self.used.known else perhaps_used(self.settings.log, self.head.facts)
         make_way(self.settings.log, self.settings.keep)
         if lost:
-            self.used.add(lost)
+            self.count_used(lost)
             self.voice.say("used_unknown", "%s is lost: all vectors of the log count as used" % self.used.path)
 
     def has_log(self):
@@ -98,9 +98,14 @@ class Front:
         if why and resumes and not self.settings.anew:
             raise Failed("%s (--anew begins with nobody attached)" % why, WRONG)
         if why:
-            self.used.add(facts_in(log, self.head.facts))
+            self.count_used(facts_in(log, self.head.facts))
             self.voice.say("not_resumed", "the last run isn't resumed, and nobody is attached: %s" % why)
         return resumes and not why and bool(parts_of(log))
+
+    def count_used(self, lines):
+        """All vectors of these lines of a log count as used; where one of them is damaged, those of the subscribers' file too."""
+        if not self.used.add(lines):
+            self.used.add(self.head.facts)
 
     def write_to(self, journal):
         """From now on what the MME is given stands in this log, and on disk where it is to be synced. The vectors that were used are
