@@ -1,6 +1,7 @@
 """tools/front with an MME that takes further subscribers and vectors while it runs: what is looked at before, the lines in the log,
 the MME's answers to them, and a log that has all of them in its head. The MME isn't the library here; tests/library has that."""
 import collections
+import functools
 import pathlib
 import socket
 import sys
@@ -17,6 +18,7 @@ from tests.tools.test_front_guests import Turned
 from tests.tools.test_front_syncing import ByHand, Receiver
 from tools import runs
 from tools.fronting import adding, exchange, heads, journal, keys, limits, provisioning, resuming, stock, teller
+from tools.fronting.front import Front
 from tools.fronting.guests import Door
 from tools.fronting.loop import Loop
 from tools.fronting.meters import Meters
@@ -76,7 +78,7 @@ class Looked(unittest.TestCase):
                 ([SUB, SUB.replace(OTHER, "001010000000003")], "line 2: another subscriber has the address 0a000002"),
                 ([vector(IMSI, 7)], "line 1: its vector was used already: its RAND stands in "),
                 ([vector(IMSI, number) for number in range(100, 164)],
-                 "line 64: %s would have 65 vectors that aren't spent, and has 64 at most" % IMSI),
+                 "line 64: %s would have 65 vectors that aren't spent or answered yet, and has 64 at most" % IMSI),
                 ([SUB] + [vector(OTHER, number) for number in range(65)], "line 66: %s would have 65 vectors" % OTHER)):
             with self.subTest(why=why):
                 made = self.further()
@@ -85,12 +87,14 @@ class Looked(unittest.TestCase):
                         made.take(line)
 
     def test_spent(self):
-        """A vector that is spent makes room for one."""
+        """A vector that is spent makes room for one once another is challenged with: the MME keeps it until it is answered."""
+        self.head.add(vector(IMSI, 2))
         made = self.further()
-        made.stock.note(0, bytes(15) + b"\1")
-        for number in range(100, 164):
+        for rand in (1, 2):
+            made.stock.note(0, rand.to_bytes(16, "big"))
+        for number in range(100, 163):
             made.take(vector(IMSI, number))
-        with self.assertRaisesRegex(runs.Fault, "would have 65 vectors"):
+        with self.assertRaisesRegex(runs.Fault, "line 64: %s would have 65 vectors" % IMSI):
             made.take(vector(IMSI, 200))
 
     def test_too_many(self):
@@ -250,9 +254,10 @@ class Whole(unittest.TestCase):
         self.front = types.SimpleNamespace(
             loop=self.loop, exchange=self.exchange, head=self.head, stock=stock.Stock(self.head, none), form=keys.Whole(), given=0,
             used=types.SimpleNamespace(check_vector=none), giving=None,
-            voice=types.SimpleNamespace(say=lambda event, text: self.said.append((event, text))))
+            voice=types.SimpleNamespace(say=lambda event, text: self.said.append((event, text))),
+            teller=types.SimpleNamespace(refuse=lambda: self.said.append("refuse")))
         self.exchange.lengthen = lambda lines: [self.head.add(line) for line in lines]
-        self.exchange.note_refused = lambda number, line: self.front.giving.is_refused(number, line)
+        self.exchange.note_refused = functools.partial(Front.has_refused, self.front)
         self.batches = []
         self.exchange.follow = lambda batch: self.batches.append(list(batch.lines))
 
@@ -301,9 +306,13 @@ class Whole(unittest.TestCase):
         self.assertEqual((self.said, self.head.imsis), ([], [IMSI]))
 
     def test_refused_all_the_same(self):
-        """What the MME refuses is told, and nobody follows it."""
-        self.give("%s\n%s\n" % (SUB.replace(OTHER, "001010000000009"), SUB.replace("0a000002", "0a000003")))
+        """What the MME refuses is told, and nobody follows it. It isn't given a second time."""
+        refused = SUB.replace(OTHER, "001010000000009")
+        self.give("%s\n%s\n" % (refused, SUB.replace("0a000002", "0a000003")))
         self.turn()
+        self.assertEqual(self.said[0], "refuse")
+        self.give(refused)
+        self.assertEqual(self.replies.pop(), "fault line 1: it stands already")
         self.assertEqual(self.replies, [
             "refused: the MME doesn't take 1 line of 2; as they stand in the log, they belong to the subscribers too: "
             "sub 001010000000009 (17)"])
@@ -464,6 +473,17 @@ class Standing(unittest.TestCase):
         self.assertEqual((status, told), (2, "front: %s: line 3: %s\n" % (folder / "subscribers", provisioning.OF_A_LOG)))
 
 
+    def test_same_rand(self):
+        """Nor has such a file two vectors of a subscriber with the same RAND."""
+        folder, first = pathlib.Path(self.log).parent, vector(IMSI, 0xab)
+        words = [folder / "subscribers", self.log, "--tcp", "--port", "0", "--mme", "/bin/false"]
+        for second in (first, vector(IMSI, 0xab, 2), first.upper().replace("VEC", "vec")):
+            (folder / "subscribers").write_text("%s%s\n# more\n%s\n" % (HEAD, first, second))
+            status, told = said(["run", *words])
+            self.assertEqual((status, told), (2, "front: %s: line 5: %s\n" % (
+                folder / "subscribers", provisioning.SAME_RAND % IMSI)))
+
+
 class Long(Turned):
     """A guest who says much."""
 
@@ -511,6 +531,16 @@ class Told(unittest.TestCase):
             batch.add(runs.FURTHER + "sub %015d 0a000000 0a000000 00000000" % place)
         made.take(batch)
         self.assertEqual((made.world, made.why_not), (None, teller.TOO_MANY))
+        made.refuse()
+        self.assertEqual(made.why_not, teller.TOO_MANY)
+
+    def test_refused(self):
+        """It ends where the MME refused a line that it took."""
+        front = types.SimpleNamespace(exchange=types.SimpleNamespace(follow=none, journal=None), loop=None)
+        made = teller.Teller(front)
+        made.begin(provisioning.Head(HEAD.splitlines()))
+        made.refuse()
+        self.assertEqual((made.world, made.why_not), (None, teller.REFUSED))
 
 
 class Gathered(tools.InFolder):

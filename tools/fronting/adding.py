@@ -26,6 +26,7 @@ FORM = re.compile("sub ([0-9]{14,15}) (H{8})(?: H{8}){2}|vec ([0-9]{14,15}) (H{3
 # What is said of another, and nothing of what it has, since that may be keys.
 LENGTHS = {"sub": "an address, an S-GW's address and its tunnel end have 8 digits in hex each",
            "vec": "RAND and AUTN have 16 octets in hex, XRES 4 to 16, and KASME 32"}
+TOO_MANY = "%s would have %d vectors that aren't spent or answered yet, and has %d at most"
 
 
 def parts_of(lines):
@@ -96,9 +97,9 @@ class Further:
             raise runs.Fault("%s has no line sub" % imsi)
         self.used.check_vector(imsi, rand)
         self.vectors[imsi] += 1
-        count = self.vectors[imsi] + (self.stock.left(slot) if slot is not None else 0)
+        count = self.vectors[imsi] + (self.stock.most_unspent(slot) if slot is not None else 0)
         if count > limits.MOST_UNSPENT:
-            raise runs.Fault("%s would have %d vectors that aren't spent, and has %d at most" % (imsi, count, limits.MOST_UNSPENT))
+            raise runs.Fault(TOO_MANY % (imsi, count, limits.MOST_UNSPENT))
         self.form.add(line)
 
 

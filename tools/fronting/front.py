@@ -488,7 +488,10 @@ class Front:
         return self.settings.library and self.head.slots[imsi] >= self.begun
 
     def has_refused(self, number, line):
-        """The MME has refused a further line of provisioning, of those that are given now or of a log."""
+        """The MME has refused a further line of provisioning, of those that are given now or of a log. As it stands in the log, it
+        isn't given again."""
+        self.head.known.add(line)
+        self.teller.refuse()
         if self.giving is not None and not self.exchange.is_replaying:
             self.giving.is_refused(number, line)
 

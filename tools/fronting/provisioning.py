@@ -7,6 +7,7 @@ from tools import runs
 from tools.fronting.faults import Failed, WRONG
 
 OF_A_LOG = "it stands so in a log alone: here `sub` or `vec` comes first"  # of a line that begins with runs.FURTHER
+SAME_RAND = "%s has a vector with this RAND already"
 
 
 class Head:
@@ -100,6 +101,18 @@ def imsi_of_further(line, known, facts):
     return imsi
 
 
+def check_rands(lines, name):
+    """Refuses a file with two vectors of a subscriber that have the same RAND: each is for one challenge."""
+    seen = set()
+    for number, line in enumerate(lines, 1):
+        if line.startswith("vec "):
+            _, imsi, rand, _ = line.split(" ", 3)
+            entry = imsi + rand.lower()
+            if entry in seen:
+                raise Failed("%s: line %d: %s" % (name, number, SAME_RAND % imsi), WRONG)
+            seen.add(entry)
+
+
 def read_head(octets, name, code=None):
     """The head in a file's octets."""
     trace = runs.read_trace(octets, name)
@@ -111,6 +124,7 @@ def read_head(octets, name, code=None):
     for number, line in enumerate(lines, 1):
         if line.startswith(runs.FURTHER):
             raise Failed("%s: line %d: %s" % (name, number, OF_A_LOG), WRONG)
+    check_rands(lines, name)
     if runs.lacks_keys(trace.head):
         raise Failed("%s: a vector has no keys: they were left out of a log" % name, WRONG)
     head = Head(lines)
