@@ -43,7 +43,7 @@ class Looked(unittest.TestCase):
     """What is looked at before anything is given."""
 
     def setUp(self):
-        self.head = provisioning.Head(HEAD.splitlines() + [vector(IMSI, 1)])
+        self.head = provisioning.Head(HEAD.splitlines() + [vector(IMSI, 1), vector(IMSI, 0xcd)])
         path = self.enterContext(tempfile.TemporaryDirectory()) + "/used"
         pathlib.Path(path).write_text("%s %032x\n" % (IMSI, 7))
         self.used = UsedVectors(path)
@@ -71,6 +71,10 @@ class Looked(unittest.TestCase):
                 (["vec %s %032x %032x 000001 %064x" % (IMSI, 8, 8, 8)], short), ([vector(IMSI, 9)[:-1]], short),
                 ([keys.without_keys(vector(IMSI, 9))], "line 1: it has no keys"),
                 ([vector(IMSI, 1)], "line 1: it stands already"), ([vector(IMSI, 9)] * 2, "line 2: it stands already"),
+                *((lines, "line 2: %s has a vector with this RAND already" % IMSI) for lines in (
+                    [SUB, vector(IMSI, 1, 2)], [SUB, vector(IMSI, 0xcd).upper().replace("VEC", "vec")],
+                    [vector(IMSI, 0xab), vector(IMSI, 0xab, 2)],
+                    [vector(IMSI, 0xab), vector(IMSI, 0xab).upper().replace("VEC", "vec")])),
                 ([SUB, SUB.replace("0a000002", "0a000003")], "line 2: %s has its line sub" % OTHER),
                 ([SUB.replace(OTHER, IMSI)], "line 1: %s has its line sub" % IMSI),
                 ([vector(OTHER, 9), SUB], "line 1: %s has no line sub" % OTHER),
@@ -78,7 +82,7 @@ class Looked(unittest.TestCase):
                 ([SUB, SUB.replace(OTHER, "001010000000003")], "line 2: another subscriber has the address 0a000002"),
                 ([vector(IMSI, 7)], "line 1: its vector was used already: its RAND stands in "),
                 ([vector(IMSI, number) for number in range(100, 164)],
-                 "line 64: %s would have 65 vectors that aren't spent or answered yet, and has 64 at most" % IMSI),
+                 "line 63: %s would have 65 vectors that aren't spent or answered yet, and has 64 at most" % IMSI),
                 ([SUB] + [vector(OTHER, number) for number in range(65)], "line 66: %s would have 65 vectors" % OTHER)):
             with self.subTest(why=why):
                 made = self.further()
@@ -88,9 +92,8 @@ class Looked(unittest.TestCase):
 
     def test_spent(self):
         """A vector that is spent makes room for one once another is challenged with: the MME keeps it until it is answered."""
-        self.head.add(vector(IMSI, 2))
         made = self.further()
-        for rand in (1, 2):
+        for rand in (1, 0xcd):
             made.stock.note(0, rand.to_bytes(16, "big"))
         for number in range(100, 163):
             made.take(vector(IMSI, number))
@@ -113,7 +116,7 @@ class Looked(unittest.TestCase):
             with self.assertRaisesRegex(runs.Fault, "have the same RAND and AUTN, and a log without keys"):
                 for line in lines:
                     made.take(line)
-        self.assertEqual(len(form.vectors.keys), 1)
+        self.assertEqual(len(form.vectors.keys), 2)
 
     def test_parts(self):
         """A text in parts of whole lines, however small they are."""

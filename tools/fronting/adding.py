@@ -18,7 +18,7 @@ import time
 from tools import runs
 
 from tools.fronting import limits
-from tools.fronting.provisioning import OF_A_LOG, fields_of_further
+from tools.fronting.provisioning import OF_A_LOG, SAME_RAND, fields_of_further
 
 # A line as it has to be, H for a digit in hex; what is looked at is the IMSI with the address, or with RAND.
 FORM = re.compile("sub ([0-9]{14,15}) (H{8})(?: H{8}){2}|vec ([0-9]{14,15}) (H{32}) H{32} (?:HH){4,16} H{64}".replace(
@@ -51,7 +51,7 @@ class Further:
     def __init__(self, head, stock, used, form):
         self.head, self.stock, self.used, self.form = head, stock, used, form.further()
         self.number, self.lines = 0, []
-        self.imsis, self.places, self.known, self.vectors = set(), set(), set(), collections.Counter()
+        self.imsis, self.places, self.known, self.rands, self.vectors = set(), set(), set(), set(), collections.Counter()
 
     def take(self, line):
         """Takes one more line; a fault where it can't be given."""
@@ -91,7 +91,7 @@ class Further:
         self.places.add(address)
 
     def look_at_vector(self, imsi, rand, line):
-        """Whether its subscriber is there and has room for it, and it wasn't used."""
+        """Whether its subscriber is there, has room for it and none like it, and it wasn't used."""
         slot = self.head.slots.get(imsi)
         if slot is None and imsi not in self.imsis:
             raise runs.Fault("%s has no line sub" % imsi)
@@ -101,6 +101,9 @@ class Further:
         if count > limits.MOST_UNSPENT:
             raise runs.Fault(TOO_MANY % (imsi, count, limits.MOST_UNSPENT))
         self.form.add(line)
+        if (imsi, rand) in self.rands or slot is not None and self.stock.place_of(slot, bytes.fromhex(rand)) is not None:
+            raise runs.Fault(SAME_RAND % imsi)
+        self.rands.add((imsi, rand))
 
 
 class Adding:
