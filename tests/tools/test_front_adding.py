@@ -18,6 +18,7 @@ from tests.tools.test_front_guests import Turned
 from tests.tools.test_front_syncing import ByHand, Receiver
 from tools import runs
 from tools.fronting import adding, exchange, heads, journal, keys, limits, provisioning, resuming, stock, teller
+from tools.fronting.faults import Failed
 from tools.fronting.front import Front
 from tools.fronting.guests import Door
 from tools.fronting.loop import Loop
@@ -244,6 +245,11 @@ class Answered(unittest.TestCase):
             made.hear(b"+ sub x\n")
 
 
+class Unused(dict):
+    """No vector was used."""
+    noted = {}
+
+
 class Whole(unittest.TestCase):
     """What a file's lines become in turns."""
 
@@ -300,6 +306,44 @@ class Whole(unittest.TestCase):
         self.assertEqual(max(sizes), limits.ADDED_LINES)
         places = [place for place, size in enumerate(sizes) if size]
         self.assertTrue(any("tick 1" in batch for batch in self.batches[places[0]:places[-1]]))
+
+    def in_log(self, full_disk="end"):
+        """A log that isn't synced, which has what the MME is given."""
+        made = journal.Journal.begun(self.enterContext(tempfile.TemporaryDirectory()) + "/log", self.head, 1 << 20, 5)
+        self.addCleanup(made.close)
+        made.keep_by(None)
+        self.exchange.used, self.exchange.full_disk = Unused(), full_disk
+        self.exchange.write_to(made)
+        return made
+
+    def test_on_disk(self):
+        """A turn with such lines is on disk before the MME gets it, also where no other is."""
+        made, synced = self.in_log(), []
+        first = made.happened.file
+        self.exchange.follow = lambda batch: synced.append("given")
+        with unittest.mock.patch.object(journal.os, "fdatasync", side_effect=synced.append):
+            self.exchange.put("tick 1")
+            self.turn(1)
+            self.give(SUB)
+            self.turn()
+            made.roll(made.happened)
+            self.give(vector(IMSI, 1))
+            self.turn()
+        self.assertEqual(synced, ["given", first, "given", made.happened.file, "given"])
+        self.assertFalse(made.happened.has_new_name)
+        self.assertEqual(self.replies, ["given 1 subscriber, 0 vectors", "given 0 subscribers, 1 vector"])
+
+    def test_not_on_disk(self):
+        """Where it can't be known to be there the MME doesn't get it, and the front ends."""
+        for full_disk in ("end", "refuse"):
+            with self.subTest(full_disk=full_disk):
+                self.setUp()
+                self.in_log(full_disk)
+                with unittest.mock.patch.object(journal.os, "fdatasync", side_effect=OSError(5, "Input/output error")):
+                    self.give(SUB)
+                    with self.assertRaisesRegex(Failed, "/log: Input/output error"):
+                        self.turn()
+                self.assertEqual((self.batches, self.replies), ([], []))
 
     def test_nothing_changes(self):
         """Where one line can't be taken none is given."""

@@ -137,6 +137,7 @@ class Adding:
         exchange, lines = self.front.exchange, self.further.lines[self.place:self.place + limits.ADDED_LINES]
         for line in lines:
             exchange.put(runs.FURTHER + line)
+            exchange.batch.has_further = True
         self.place += len(lines)
         if self.place < len(self.further.lines):
             exchange.batch.after.append(self.put)
