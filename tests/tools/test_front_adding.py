@@ -17,7 +17,7 @@ from tests.tools.fronted import HEAD, IMSI, Running, said
 from tests.tools.test_front_guests import Turned
 from tests.tools.test_front_syncing import ByHand, Receiver
 from tools import runs
-from tools.fronting import adding, exchange, heads, journal, keys, limits, provisioning, resuming, stock, teller
+from tools.fronting import adding, exchange, heads, journal, keys, limits, provisioning, resuming, standby, stock, teller
 from tools.fronting.faults import Failed
 from tools.fronting.front import Front
 from tools.fronting.guests import Door
@@ -458,7 +458,15 @@ class Standing(unittest.TestCase):
         words = ["--tcp", "--port", "0", "--resume", "--mme", "/bin/false"]
         status, told = said(["run", folder / "subscribers", self.log, *words])
         self.assertEqual(status, 2)
-        self.assertIn(resuming.OF_LIBRARY % self.log, told)
+        self.assertIn(resuming.OF_LIBRARY % self.log + resuming.OR_FILLED, told)
+
+    def test_in_a_store(self):
+        """Of a log in a store, of which `fill` makes nothing, that isn't said."""
+        front = types.SimpleNamespace(settings=types.SimpleNamespace(library=False))
+        with self.assertRaises(Failed) as caught:
+            standby.Standby.note_further(types.SimpleNamespace(front=front), [SUB])
+        self.assertEqual(str(caught.exception), "the store's log has lines of provisioning where they were given (`#+ `), which "
+                         "`mme play` skips: go on with --library")
 
     def test_used(self):
         """Where it isn't known which vectors were used, those count too that were given while it ran."""
@@ -666,6 +674,19 @@ class Gathered(tools.InFolder):
         done = tools.ran("front", "fill", "--head", self.file("vectors", ""), log)
         self.assertEqual((done.returncode, done.stdout, done.stderr.decode()), (2, b"", "front: %s\n" % (
             heads.TOO_MANY % (IMSI, 65, 64))))
+
+    def test_unsure(self):
+        """Of a log that may lack what was answered nothing is printed, since a run could go on after it."""
+        log = self.file("log", HEAD + "# segment 1, begun now\n")
+        words = "fill", "--head", self.file("vectors", ""), log
+        for end, why in ((".unsynced", "%s was written without being synced" % log), (".counts.given-up", "%s was given up" % log)):
+            with self.subTest(end=end):
+                beside = self.file("log" + end, "another\n")
+                done = tools.ran("front", *words)
+                self.assertEqual((done.returncode, done.stdout), (2, b""))
+                self.assertIn("front: %s" % why, done.stderr.decode())
+                pathlib.Path(beside).unlink()
+        self.assertEqual(tools.ran("front", *words).returncode, 0)
 
     def test_keyless(self):
         """A vector gets its keys in the head; without --head where it stands."""

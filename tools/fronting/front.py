@@ -26,7 +26,8 @@ from tools.fronting.meters import Meters
 from tools.fronting.mme import LINE_IS_WRONG, LibraryMme, PipedMme, library
 from tools.fronting.notify import Manager
 from tools.fronting.provisioning import Head
-from tools.fronting.resuming import NAMED, OF_LIBRARY, NoResume, Standing, facts_in, make_way, note_stations, parts_of, perhaps_used
+from tools.fronting.resuming import (
+    NAMED, OF_LIBRARY, OR_FILLED, NoResume, Standing, facts_in, make_way, note_stations, parts_of, perhaps_used)
 from tools.fronting.soundness import Soundness
 from tools.fronting.standby import Standby
 from tools.fronting.stock import Stock
@@ -247,7 +248,7 @@ class Front:
         """The head to play a log with, whose lines those of the subscribers' file begin with, and then with those given since."""
         log, subscribers = self.settings.log, self.settings.subscribers
         if standing.further and not self.settings.library:
-            raise NoResume(OF_LIBRARY % log)
+            raise NoResume(OF_LIBRARY % log + OR_FILLED)
         if standing.has_keys != self.form.has_keys:
             stands, wanted = ("the vectors' keys" if form.has_keys else "no keys" for form in (standing, self.form))
             raise NoResume("%s keeps %s, and this run's log is to keep %s (--log-keys)" % (log, stands, wanted))

@@ -13,12 +13,20 @@ from tools.eps.telling import BriefNow
 from tools.eps.world import World
 
 from tools.fronting import limits
+from tools.fronting.resuming import why_given_up
+from tools.fronting.syncing import why_unsure
 
 FURTHER, SEGMENT = runs.FURTHER.encode(), b"# segment "
 KEPT = 1 << 10  # MACs of which it is known whether they are right
 TOO_MANY = "%s would have %d vectors in the head, and `mme play` takes %d: the library alone plays this log"
 OTHERWISE = "line %d, as it is printed here, is answered otherwise than it was, to %s: what was given later is there already"
 GROWN = "the log has grown meanwhile: begin again"
+
+
+def check_sure(log):
+    """Refuses a log that may lack what was answered: no run may go on after what is made of it."""
+    if why := why_given_up(log) or why_unsure(log):
+        raise runs.Fault(why)
 
 
 class Gathered:

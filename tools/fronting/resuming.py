@@ -25,8 +25,8 @@ FURTHER = runs.FURTHER.encode()
 NAMED = re.compile(rb"^(?:(?:data|cancel|show) (\d+)$|%ssub (\d+) )" % re.escape(FURTHER), re.MULTILINE)
 PIECE = 1 << 18  # octets that the MME is given at once
 # Why a program can't go on with a log.
-OF_LIBRARY = ("%s has lines of provisioning where they were given (`#+ `), which `mme play` skips: go on with --library, or with "
-              "what `mme-front fill --head` makes of it (deploy/README.md)")
+OF_LIBRARY = "%s has lines of provisioning where they were given (`#+ `), which `mme play` skips: go on with --library"
+OR_FILLED = ", or with what `mme-front fill --head` makes of it (deploy/README.md)"  # of a log in files
 OTHERS = (".counts", GIVEN_UP, UNSYNCED)  # what belongs to a log, after its name
 COMMENTS = (runs.LEFT_OUT, "# came protected: ", runs.BEGUN_ANEW)  # how lines begin that are about the line below them
 
@@ -117,6 +117,13 @@ def mapped(path):
         return mmap.mmap(file.fileno(), 0, access=mmap.ACCESS_READ)
 
 
+def why_given_up(path):
+    """Why a log hasn't all that was answered, where its run went on without it."""
+    if os.path.lexists(path + GIVEN_UP):
+        return "%s was given up, and the run went on without it (%s)" % (path, path + GIVEN_UP)
+    return None
+
+
 def head_facts(path):
     """The lines of provisioning that a log begins with, by what happened or what counts, or nothing where neither can be read."""
     for series in (path, path + ".counts", path + GIVEN_UP):
@@ -195,8 +202,8 @@ class Standing:
 
     def __init__(self, path):
         self.path = path
-        if os.path.lexists(path + GIVEN_UP):
-            raise NoResume("%s was given up, and the run went on without it (%s)" % (path, path + GIVEN_UP))
+        if why := why_given_up(path):
+            raise NoResume(why)
         try:
             self.counts, self.happened = read_series(path + ".counts"), read_series(path)
         except OSError as fault:
