@@ -371,13 +371,20 @@ class Whole(unittest.TestCase):
         self.assertNotEqual(self.exchange.mark, b"data %s\n" % NOBODY_AT_ALL.encode())
 
     def test_an_end_between(self):
-        """Where the front ends, it is said how much was given."""
-        with unittest.mock.patch.object(limits, "ADDING_SECONDS", 60):
-            self.give("\n".join("sub %015d %08x 0a000064 %08x" % (place * 10, place, place) for place in range(1, 1001)))
-        self.front.giving.refuse("the front ends")
-        self.turn()
-        self.assertEqual(self.replies, ["refused: the front ends: the first 200 of 1000 lines were given"])
-        self.assertEqual(sum(map(len, self.batches)), 200)
+        """Where the front ends, it is said how much was given that is known to stand in the log."""
+        lines = ["sub %015d %08x 0a000064 %08x" % (place * 10, place, place) for place in range(1, 1001)]
+        for turns, kept in ((0, 0), (2, 400)):
+            with self.subTest(kept=kept), unittest.mock.patch.object(limits, "ADDING_SECONDS", 60):
+                self.setUp()
+                self.give("\n".join(lines))
+                for _ in range(turns):
+                    self.exchange.flush()
+                    self.loop.after(0, none)
+                    self.loop.turn()
+                self.front.giving.refuse("the front ends")
+                self.assertEqual(self.replies, ["refused: the front ends: at least the first %d of 1000 lines were given" % kept])
+                self.turn()
+                self.assertEqual(sum(map(len, self.batches)), kept + 200)
 
 
 class Keyless(unittest.TestCase):

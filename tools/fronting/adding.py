@@ -12,6 +12,7 @@ the run ends before, the log has the first of the lines, and the others are give
 subscribers' file. `show` of a subscriber who was given stands in no log, since `mme play` would end there.
 """
 import collections
+import functools
 import re
 import time
 
@@ -112,7 +113,8 @@ class Adding:
     def __init__(self, front, parts, reply):
         self.front, self.parts, self.reply = front, parts, reply
         self.further = Further(front.head, front.stock, front.used, front.form)
-        self.place, self.timer, self.is_over, self.refused = 0, None, False, []
+        self.place = self.kept = 0  # how many lines were put, and how many of these are known to stand in the log
+        self.timer, self.is_over, self.refused = None, False, []
 
     def go_on(self):
         """Looks at lines for a while; once it has seen all, gives the first of them."""
@@ -139,11 +141,17 @@ class Adding:
             exchange.put(runs.FURTHER + line)
             exchange.batch.has_further = True
         self.place += len(lines)
+        if not lines:
+            self.has_given()
+            return
+        exchange.when_kept(functools.partial(self.has_kept, self.place))
         if self.place < len(self.further.lines):
             exchange.batch.after.append(self.put)
-        elif lines:
-            exchange.when_kept(self.has_given)
-        else:
+
+    def has_kept(self, count):
+        """So many lines stand in the log."""
+        self.kept = count
+        if count == len(self.further.lines):
             self.has_given()
 
     def is_refused(self, number, line):
@@ -165,7 +173,7 @@ class Adding:
     def refuse(self, why):
         """No more of it is given."""
         if not self.is_over:
-            self.end("refused: %s: the first %d of %d lines were given" % (why, self.place, len(self.further.lines)))
+            self.end("refused: %s: at least the first %d of %d lines were given" % (why, self.kept, len(self.further.lines)))
 
     def end(self, answer):
         self.is_over, self.front.giving = True, None
