@@ -682,6 +682,27 @@ class Gathered(tools.InFolder):
         self.assertEqual((done.returncode, done.stdout, done.stderr.decode()), (2, b"", "front: %s\n" % (
             heads.TOO_MANY % (IMSI, 65, 64))))
 
+    def test_damaged(self):
+        """A line that is none is told by its number, of the log as it is printed."""
+        begun, given = HEAD + "# segment 1, begun now\n", runs.FURTHER + SUB + "\n"
+        for text, number, why in (
+                (begun + "up\n" + given, 5, "up has 1 field, not 0"), (begun + "u 0\n" + given, 5, "no line begins with 'u'"),
+                (begun + "in 0 0g\n" + given, 5, "'0g' aren't octets in hex"),
+                (begun + "show %s\n" % OTHER + given, 5, "nobody has the IMSI " + OTHER),
+                (begun + runs.FURTHER + "vec 1\n", 3, "vec has 5 fields, not 1"),
+                (HEAD + "sub\n# segment 1, begun now\n", 3, "sub has 4 fields, not 0")):
+            with self.subTest(why=why), self.assertRaises(runs.Fault) as caught:
+                lines = text.encode().splitlines(keepends=True)
+                list(heads.Gathered(lambda lines=lines: iter(lines)).differences())
+            self.assertEqual(str(caught.exception), heads.DAMAGED % (number, why))
+
+    def test_a_comment(self):
+        """A comment of the subscribers' file doesn't end the head, whatever it begins with."""
+        text = HEAD + "# segment of the north\n%s\n# segment 1, begun now\nup 0\n" % SUB
+        lines = text.encode().splitlines(keepends=True)
+        made = heads.Gathered(lambda: iter(lines))
+        self.assertEqual((made.head, list(made.lines())), (lines[:4], lines))
+
     def test_unsure(self):
         """Of a log that may lack what was answered nothing is printed, since a run could go on after it."""
         log = self.file("log", HEAD + "# segment 1, begun now\n")

@@ -140,6 +140,7 @@ class Front:
 
     def start_mme(self, head):
         """An MME with this head, and what follows its phones."""
+        self.census.begin()
         self.head, self.known, self.begun = head, set(head.slots), len(head.imsis)
         if self.settings.library:
             head.prepare()
