@@ -307,11 +307,11 @@ class Whole(unittest.TestCase):
         places = [place for place, size in enumerate(sizes) if size]
         self.assertTrue(any("tick 1" in batch for batch in self.batches[places[0]:places[-1]]))
 
-    def in_log(self, full_disk="end"):
-        """A log that isn't synced, which has what the MME is given."""
+    def in_log(self, full_disk="end", syncer=None):
+        """A log which has what the MME is given; it isn't synced unless by this one."""
         made = journal.Journal.begun(self.enterContext(tempfile.TemporaryDirectory()) + "/log", self.head, 1 << 20, 5)
         self.addCleanup(made.close)
-        made.keep_by(None)
+        made.keep_by(syncer)
         self.exchange.used, self.exchange.full_disk = Unused(), full_disk
         self.exchange.write_to(made)
         return made
@@ -332,6 +332,18 @@ class Whole(unittest.TestCase):
         self.assertEqual(synced, ["given", first, "given", made.happened.file, "given"])
         self.assertFalse(made.happened.has_new_name)
         self.assertEqual(self.replies, ["given 1 subscriber, 0 vectors", "given 0 subscribers, 1 vector"])
+
+    def test_followers(self):
+        """Who follows the tunnels is told of a subscriber once the line is on disk."""
+        made = self.in_log(syncer=ByHand())
+        self.front.followers = types.SimpleNamespace(lengthen=lambda: self.said.append(list(self.head.imsis)))
+        self.exchange.lengthen = functools.partial(Front.lengthen, self.front)
+        self.give(SUB)
+        self.turn()
+        self.assertEqual((self.head.imsis, self.said, self.replies), ([IMSI, OTHER], [], []))
+        made.syncer.end()
+        self.turn()
+        self.assertEqual((self.said[0], self.replies), ([IMSI, OTHER], ["given 1 subscriber, 0 vectors"]))
 
     def test_not_on_disk(self):
         """Where it can't be known to be there the MME doesn't get it, and the front ends."""

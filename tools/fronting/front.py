@@ -145,6 +145,8 @@ class Front:
         if self.settings.library:
             head.prepare()
         self.stock = Stock(head, self.has_few)
+        if self.followers is not None:
+            self.followers.lengthen()
         self.exchange.begin(self.make, head)
         if self.teller is not None:
             self.teller.end(None)
@@ -483,7 +485,7 @@ class Front:
         self.form.add(lines)
         self.stock.lengthen(self.head)
         if self.followers is not None:
-            self.followers.lengthen()
+            self.exchange.do(self.exchange.marks[0].turn, self.followers.lengthen)
 
     def was_given(self, imsi):
         """Whether a subscriber isn't of the log's head, so that `mme play` ends at `show` of it."""
