@@ -1,7 +1,9 @@
 """tools/front with an MME that takes further subscribers and vectors while it runs: what is looked at before, the lines in the log,
 the MME's answers to them, and a log that has all of them in its head. The MME isn't the library here; tests/library has that."""
 import collections
+import contextlib
 import functools
+import io
 import pathlib
 import socket
 import sys
@@ -17,7 +19,7 @@ from tests.tools.fronted import HEAD, IMSI, Running, said
 from tests.tools.test_front_guests import Turned
 from tests.tools.test_front_syncing import ByHand, Receiver
 from tools import runs
-from tools.fronting import adding, exchange, heads, journal, keys, limits, provisioning, resuming, standby, stock, teller
+from tools.fronting import adding, command, exchange, heads, journal, keys, limits, provisioning, resuming, standby, stock, teller
 from tools.fronting.faults import Failed
 from tools.fronting.front import Front
 from tools.fronting.guests import Door
@@ -65,6 +67,7 @@ class Looked(unittest.TestCase):
         short = "line 1: RAND and AUTN have 16 octets in hex, XRES 4 to 16, and KASME 32"
         for lines, why in (
                 (["up 0"], "line 1: no line begins with 'up'"), ([self.head.lines[0]], "line 1: no line begins with 'mme'"),
+                (["ab" * 32], "line 1: no line begins so$"), (["vec " + "0 " * 20000], "line 1: longer than 40000 octets"),
                 (["sub"], "line 1: sub has 4 fields, not 0"), (["sub x 0a000002 0a000064 00000002"], "line 1: 'x' isn't an IMSI"),
                 (["", "# x", runs.FURTHER + SUB], "line 3: it stands so in a log alone"),
                 ([SUB[:-2]], "line 1: an address, an S-GW's address and its tunnel end have 8 digits in hex each"),
@@ -558,6 +561,22 @@ class Standing(unittest.TestCase):
                 folder / "subscribers", provisioning.SAME_RAND % IMSI)))
 
 
+class Asking(tools.InFolder):
+    """`ask .. give`."""
+
+    def test_long(self):
+        """It waits for its answer, however long that takes; other words don't."""
+        asking = unittest.mock.MagicMock()
+        asking.__enter__.return_value = asking
+        asking.makefile.return_value.readline.return_value = "taken\n"
+        lines = str(self.file("lines", SUB))
+        with unittest.mock.patch.object(command, "connected", return_value=asking), contextlib.redirect_stdout(io.StringIO()):
+            for word, more, seconds in (("give", lines, None), ("data", IMSI, limits.GIVING_SECONDS + limits.HOLD_SECONDS)):
+                command.ask(command.parser("").parse_args(["ask", "control", word, more]))
+                self.assertEqual(asking.settimeout.mock_calls, [unittest.mock.call(seconds)])
+                asking.settimeout.reset_mock()
+
+
 class Long(Turned):
     """A guest who says much."""
 
@@ -693,6 +712,15 @@ class Gathered(tools.InFolder):
         done = tools.ran("front", "fill", "--head", self.file("vectors", ""), log)
         self.assertEqual((done.returncode, done.stdout, done.stderr.decode()), (2, b"", "front: %s\n" % (
             heads.TOO_MANY % (IMSI, 65, 64))))
+
+    def test_much(self):
+        """What is past is forgotten now and then."""
+        lines = ["tick 1\n"] * 30
+        text = HEAD + "# segment 1, begun now\n" + "".join([*lines, runs.FURTHER, SUB, "\n"])
+        with unittest.mock.patch.object(limits, "FORGETS_AFTER", 10), unittest.mock.patch.object(heads.World, "forget") as forget:
+            made = heads.Gathered(lambda: iter(text.encode().splitlines(keepends=True)))
+            self.assertEqual(list(made.differences()), [])
+        self.assertEqual(forget.mock_calls, [unittest.mock.call(limits.MOST_LINES_OF_PHONE)] * 6)
 
     def test_damaged(self):
         """A line that is none is told by its number, of the log as it is printed."""

@@ -24,7 +24,7 @@ from tools.fronting.provisioning import OF_A_LOG, SAME_RAND, fields_of_further
 # A line as it has to be, H for a digit in hex; what is looked at is the IMSI with the address, or with RAND.
 FORM = re.compile("sub ([0-9]{14,15}) (H{8})(?: H{8}){2}|vec ([0-9]{14,15}) (H{32}) H{32} (?:HH){4,16} H{64}".replace(
     "H", "[0-9a-fA-F]"))
-# What is said of another, and nothing of what it has, since that may be keys.
+# What is said of another, and nothing of what it has, since that may be keys, also where it begins with them.
 LENGTHS = {"sub": "an address, an S-GW's address and its tunnel end have 8 digits in hex each",
            "vec": "RAND and AUTN have 16 octets in hex, XRES 4 to 16, and KASME 32"}
 TOO_MANY = "%s would have %d vectors that aren't spent or answered yet, and has %d at most"
@@ -58,6 +58,8 @@ class Further:
         """Takes one more line; a fault where it can't be given."""
         self.number += 1
         try:
+            if len(line) > runs.LONGEST_LINE:
+                raise runs.Fault("longer than %d octets" % runs.LONGEST_LINE)
             if line.startswith(runs.FURTHER):
                 raise runs.Fault(OF_A_LOG)
             if line and not line.startswith("#"):
@@ -69,6 +71,8 @@ class Further:
     def look_at(self, line):
         found = FORM.fullmatch(line)
         if found is None:
+            if line.partition(" ")[0] not in runs.WORDS:
+                raise runs.Fault("no line begins so")
             word, _ = fields_of_further(line)
             raise runs.Fault(LENGTHS[word])
         if line in self.head.known or line in self.known:

@@ -143,7 +143,8 @@ def ask(given):
     try:
         octets = question(given)
         with connected(given.control, given.wait) as asking:
-            asking.settimeout(limits.GIVING_SECONDS + limits.HOLD_SECONDS)
+            # Many lines are given in the time that they take.
+            asking.settimeout(None if given.word in OF_FILE else limits.GIVING_SECONDS + limits.HOLD_SECONDS)
             try:
                 asking.sendall(octets)
                 answers = asking.makefile(encoding="utf-8", errors="replace", newline="\n")

@@ -90,6 +90,9 @@ class Gathered:
                     return
                 continue
             number += 1
+            if not number % limits.FORGETS_AFTER:
+                for world in (before, after):
+                    world.forget(limits.MOST_LINES_OF_PHONE)
             found = [owner for owner in owners(*(answers(world, number, line) for world in (before, after))) if owner not in known]
             known.update(found)
             if found:
