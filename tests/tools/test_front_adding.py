@@ -551,7 +551,7 @@ class Standing(unittest.TestCase):
 
 
     def test_same_rand(self):
-        """Nor has such a file two vectors of a subscriber with the same RAND."""
+        """Nor has such a file two vectors of a subscriber with the same RAND, and nothing like it is given to a program."""
         folder, first = pathlib.Path(self.log).parent, vector(IMSI, 0xab)
         words = [folder / "subscribers", self.log, "--tcp", "--port", "0", "--mme", "/bin/false"]
         for second in (first, vector(IMSI, 0xab, 2), first.upper().replace("VEC", "vec")):
@@ -559,6 +559,9 @@ class Standing(unittest.TestCase):
             status, told = said(["run", *words])
             self.assertEqual((status, told), (2, "front: %s: line 5: %s\n" % (
                 folder / "subscribers", provisioning.SAME_RAND % IMSI)))
+            if second != first:
+                with self.assertRaisesRegex(runs.Fault, "line 2: " + provisioning.SAME_RAND % IMSI):
+                    provisioning.Head([*HEAD.splitlines(), first]).with_more([SUB, second])
 
 
 class Asking(tools.InFolder):
