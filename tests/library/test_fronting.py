@@ -245,13 +245,28 @@ class GivenToPhones(test_front_log.GivenToPhones):
                            (sub + sub.replace("000009 0a000009", "00000a 0a000001").replace("a 0", "8 0"),
                             "fault line 2: another subscriber has the address 0a000001\n"),
                            (sub + first.vectors[0].words(first.imsi) + "\n", "fault line 2: it stands already\n"),
-                           (sub + "".join(PHONES.Vector.made("more %d" % place).words(first.imsi) + "\n" for place in range(64)),
-                            "fault line 65: %s would have 65 vectors that aren't spent, and has 64 at most\n" % first.imsi)):
+                           (sub + "".join(PHONES.Vector.made("more %d" % place).words(first.imsi) + "\n" for place in range(63)),
+                            "fault line 64: %s would have 65 vectors that aren't spent or answered yet, and has 64 at most\n"
+                            % first.imsi)):
             with self.subTest(told=told):
                 self.assertEqual(give(running, text), told)
         self.assertEqual((fronted.events_of(whole(running)), further(running)), (before, []))
-        more = "".join(PHONES.Vector.made("more %d" % place).words(first.imsi) + "\n" for place in range(63))
-        self.assertEqual(give(running, more), "given 0 subscribers, 63 vectors\n")
+        more = "".join(PHONES.Vector.made("more %d" % place).words(first.imsi) + "\n" for place in range(62))
+        self.assertEqual(give(running, more), "given 0 subscribers, 62 vectors\n")
+        self.assertEqual(running.stop()[0], 0)
+
+    def test_while_challenged(self):
+        """A phone that hasn't answered its challenge has no room for another vector in that one's place."""
+        running, talk = self.running(())
+        phone = self.phones[0]
+        lines = [PHONES.Vector.made("more %d" % place).words(phone.imsi) + "\n" for place in range(63)]
+        self.assertEqual(give(running, "".join(lines[:62])), "given 0 subscribers, 62 vectors\n")
+        phone.asks_to_attach(self.station, 1)
+        talk.settle()
+        self.assertEqual(
+            give(running, lines[62]),
+            "fault line 1: %s would have 65 vectors that aren't spent or answered yet, and has 64 at most\n" % phone.imsi)
+        self.assertEqual([line for _, line in further(running)], [line.rstrip("\n") for line in lines[:62]])
         self.assertEqual(running.stop()[0], 0)
 
     def test_the_mark(self):

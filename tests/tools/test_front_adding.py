@@ -1,6 +1,9 @@
 """tools/front with an MME that takes further subscribers and vectors while it runs: what is looked at before, the lines in the log,
 the MME's answers to them, and a log that has all of them in its head. The MME isn't the library here; tests/library has that."""
 import collections
+import contextlib
+import functools
+import io
 import pathlib
 import socket
 import sys
@@ -16,7 +19,9 @@ from tests.tools.fronted import HEAD, IMSI, Running, said
 from tests.tools.test_front_guests import Turned
 from tests.tools.test_front_syncing import ByHand, Receiver
 from tools import runs
-from tools.fronting import adding, exchange, heads, journal, keys, limits, provisioning, resuming, stock, teller
+from tools.fronting import adding, command, exchange, heads, journal, keys, limits, provisioning, resuming, standby, stock, teller
+from tools.fronting.faults import Failed
+from tools.fronting.front import Front
 from tools.fronting.guests import Door
 from tools.fronting.loop import Loop
 from tools.fronting.meters import Meters
@@ -41,7 +46,7 @@ class Looked(unittest.TestCase):
     """What is looked at before anything is given."""
 
     def setUp(self):
-        self.head = provisioning.Head(HEAD.splitlines() + [vector(IMSI, 1)])
+        self.head = provisioning.Head(HEAD.splitlines() + [vector(IMSI, 1), vector(IMSI, 0xcd)])
         path = self.enterContext(tempfile.TemporaryDirectory()) + "/used"
         pathlib.Path(path).write_text("%s %032x\n" % (IMSI, 7))
         self.used = UsedVectors(path)
@@ -62,6 +67,7 @@ class Looked(unittest.TestCase):
         short = "line 1: RAND and AUTN have 16 octets in hex, XRES 4 to 16, and KASME 32"
         for lines, why in (
                 (["up 0"], "line 1: no line begins with 'up'"), ([self.head.lines[0]], "line 1: no line begins with 'mme'"),
+                (["ab" * 32], "line 1: no line begins so$"), (["vec " + "0 " * 20000], "line 1: longer than 40000 octets"),
                 (["sub"], "line 1: sub has 4 fields, not 0"), (["sub x 0a000002 0a000064 00000002"], "line 1: 'x' isn't an IMSI"),
                 (["", "# x", runs.FURTHER + SUB], "line 3: it stands so in a log alone"),
                 ([SUB[:-2]], "line 1: an address, an S-GW's address and its tunnel end have 8 digits in hex each"),
@@ -69,6 +75,10 @@ class Looked(unittest.TestCase):
                 (["vec %s %032x %032x 000001 %064x" % (IMSI, 8, 8, 8)], short), ([vector(IMSI, 9)[:-1]], short),
                 ([keys.without_keys(vector(IMSI, 9))], "line 1: it has no keys"),
                 ([vector(IMSI, 1)], "line 1: it stands already"), ([vector(IMSI, 9)] * 2, "line 2: it stands already"),
+                *((lines, "line 2: %s has a vector with this RAND already" % IMSI) for lines in (
+                    [SUB, vector(IMSI, 1, 2)], [SUB, vector(IMSI, 0xcd).upper().replace("VEC", "vec")],
+                    [vector(IMSI, 0xab), vector(IMSI, 0xab, 2)],
+                    [vector(IMSI, 0xab), vector(IMSI, 0xab).upper().replace("VEC", "vec")])),
                 ([SUB, SUB.replace("0a000002", "0a000003")], "line 2: %s has its line sub" % OTHER),
                 ([SUB.replace(OTHER, IMSI)], "line 1: %s has its line sub" % IMSI),
                 ([vector(OTHER, 9), SUB], "line 1: %s has no line sub" % OTHER),
@@ -76,7 +86,7 @@ class Looked(unittest.TestCase):
                 ([SUB, SUB.replace(OTHER, "001010000000003")], "line 2: another subscriber has the address 0a000002"),
                 ([vector(IMSI, 7)], "line 1: its vector was used already: its RAND stands in "),
                 ([vector(IMSI, number) for number in range(100, 164)],
-                 "line 64: %s would have 65 vectors that aren't spent, and has 64 at most" % IMSI),
+                 "line 63: %s would have 65 vectors that aren't spent or answered yet, and has 64 at most" % IMSI),
                 ([SUB] + [vector(OTHER, number) for number in range(65)], "line 66: %s would have 65 vectors" % OTHER)):
             with self.subTest(why=why):
                 made = self.further()
@@ -85,12 +95,13 @@ class Looked(unittest.TestCase):
                         made.take(line)
 
     def test_spent(self):
-        """A vector that is spent makes room for one."""
+        """A vector that is spent makes room for one once another is challenged with: the MME keeps it until it is answered."""
         made = self.further()
-        made.stock.note(0, bytes(15) + b"\1")
-        for number in range(100, 164):
+        for rand in (1, 0xcd):
+            made.stock.note(0, rand.to_bytes(16, "big"))
+        for number in range(100, 163):
             made.take(vector(IMSI, number))
-        with self.assertRaisesRegex(runs.Fault, "would have 65 vectors"):
+        with self.assertRaisesRegex(runs.Fault, "line 64: %s would have 65 vectors" % IMSI):
             made.take(vector(IMSI, 200))
 
     def test_too_many(self):
@@ -109,7 +120,7 @@ class Looked(unittest.TestCase):
             with self.assertRaisesRegex(runs.Fault, "have the same RAND and AUTN, and a log without keys"):
                 for line in lines:
                     made.take(line)
-        self.assertEqual(len(form.vectors.keys), 1)
+        self.assertEqual(len(form.vectors.keys), 2)
 
     def test_parts(self):
         """A text in parts of whole lines, however small they are."""
@@ -237,6 +248,11 @@ class Answered(unittest.TestCase):
             made.hear(b"+ sub x\n")
 
 
+class Unused(dict):
+    """No vector was used."""
+    noted = {}
+
+
 class Whole(unittest.TestCase):
     """What a file's lines become in turns."""
 
@@ -250,9 +266,10 @@ class Whole(unittest.TestCase):
         self.front = types.SimpleNamespace(
             loop=self.loop, exchange=self.exchange, head=self.head, stock=stock.Stock(self.head, none), form=keys.Whole(), given=0,
             used=types.SimpleNamespace(check_vector=none), giving=None,
-            voice=types.SimpleNamespace(say=lambda event, text: self.said.append((event, text))))
+            voice=types.SimpleNamespace(say=lambda event, text: self.said.append((event, text))),
+            teller=types.SimpleNamespace(refuse=lambda: self.said.append("refuse")))
         self.exchange.lengthen = lambda lines: [self.head.add(line) for line in lines]
-        self.exchange.note_refused = lambda number, line: self.front.giving.is_refused(number, line)
+        self.exchange.note_refused = functools.partial(Front.has_refused, self.front)
         self.batches = []
         self.exchange.follow = lambda batch: self.batches.append(list(batch.lines))
 
@@ -293,6 +310,56 @@ class Whole(unittest.TestCase):
         places = [place for place, size in enumerate(sizes) if size]
         self.assertTrue(any("tick 1" in batch for batch in self.batches[places[0]:places[-1]]))
 
+    def in_log(self, full_disk="end", syncer=None):
+        """A log which has what the MME is given; it isn't synced unless by this one."""
+        made = journal.Journal.begun(self.enterContext(tempfile.TemporaryDirectory()) + "/log", self.head, 1 << 20, 5)
+        self.addCleanup(made.close)
+        made.keep_by(syncer)
+        self.exchange.used, self.exchange.full_disk = Unused(), full_disk
+        self.exchange.write_to(made)
+        return made
+
+    def test_on_disk(self):
+        """A turn with such lines is on disk before the MME gets it, also where no other is."""
+        made, synced = self.in_log(), []
+        first = made.happened.file
+        self.exchange.follow = lambda batch: synced.append("given")
+        with unittest.mock.patch.object(journal.os, "fdatasync", side_effect=synced.append):
+            self.exchange.put("tick 1")
+            self.turn(1)
+            self.give(SUB)
+            self.turn()
+            made.roll(made.happened)
+            self.give(vector(IMSI, 1))
+            self.turn()
+        self.assertEqual(synced, ["given", first, "given", made.happened.file, "given"])
+        self.assertFalse(made.happened.has_new_name)
+        self.assertEqual(self.replies, ["given 1 subscriber, 0 vectors", "given 0 subscribers, 1 vector"])
+
+    def test_followers(self):
+        """Who follows the tunnels is told of a subscriber once the line is on disk."""
+        made = self.in_log(syncer=ByHand())
+        self.front.followers = types.SimpleNamespace(lengthen=lambda: self.said.append(list(self.head.imsis)))
+        self.exchange.lengthen = functools.partial(Front.lengthen, self.front)
+        self.give(SUB)
+        self.turn()
+        self.assertEqual((self.head.imsis, self.said, self.replies), ([IMSI, OTHER], [], []))
+        made.syncer.end()
+        self.turn()
+        self.assertEqual((self.said[0], self.replies), ([IMSI, OTHER], ["given 1 subscriber, 0 vectors"]))
+
+    def test_not_on_disk(self):
+        """Where it can't be known to be there the MME doesn't get it, and the front ends."""
+        for full_disk in ("end", "refuse"):
+            with self.subTest(full_disk=full_disk):
+                self.setUp()
+                self.in_log(full_disk)
+                with unittest.mock.patch.object(journal.os, "fdatasync", side_effect=OSError(5, "Input/output error")):
+                    self.give(SUB)
+                    with self.assertRaisesRegex(Failed, "/log: Input/output error"):
+                        self.turn()
+                self.assertEqual((self.batches, self.replies), ([], []))
+
     def test_nothing_changes(self):
         """Where one line can't be taken none is given."""
         self.give("%s\nup 0\n" % SUB)
@@ -301,9 +368,13 @@ class Whole(unittest.TestCase):
         self.assertEqual((self.said, self.head.imsis), ([], [IMSI]))
 
     def test_refused_all_the_same(self):
-        """What the MME refuses is told, and nobody follows it."""
-        self.give("%s\n%s\n" % (SUB.replace(OTHER, "001010000000009"), SUB.replace("0a000002", "0a000003")))
+        """What the MME refuses is told, and nobody follows it. It isn't given a second time."""
+        refused = SUB.replace(OTHER, "001010000000009")
+        self.give("%s\n%s\n" % (refused, SUB.replace("0a000002", "0a000003")))
         self.turn()
+        self.assertEqual(self.said[0], "refuse")
+        self.give(refused)
+        self.assertEqual(self.replies.pop(), "fault line 1: it stands already")
         self.assertEqual(self.replies, [
             "refused: the MME doesn't take 1 line of 2; as they stand in the log, they belong to the subscribers too: "
             "sub 001010000000009 (17)"])
@@ -315,13 +386,20 @@ class Whole(unittest.TestCase):
         self.assertNotEqual(self.exchange.mark, b"data %s\n" % NOBODY_AT_ALL.encode())
 
     def test_an_end_between(self):
-        """Where the front ends, it is said how much was given."""
-        with unittest.mock.patch.object(limits, "ADDING_SECONDS", 60):
-            self.give("\n".join("sub %015d %08x 0a000064 %08x" % (place * 10, place, place) for place in range(1, 1001)))
-        self.front.giving.refuse("the front ends")
-        self.turn()
-        self.assertEqual(self.replies, ["refused: the front ends: the first 200 of 1000 lines were given"])
-        self.assertEqual(sum(map(len, self.batches)), 200)
+        """Where the front ends, it is said how much was given that is known to stand in the log."""
+        lines = ["sub %015d %08x 0a000064 %08x" % (place * 10, place, place) for place in range(1, 1001)]
+        for turns, kept in ((0, 0), (2, 400)):
+            with self.subTest(kept=kept), unittest.mock.patch.object(limits, "ADDING_SECONDS", 60):
+                self.setUp()
+                self.give("\n".join(lines))
+                for _ in range(turns):
+                    self.exchange.flush()
+                    self.loop.after(0, none)
+                    self.loop.turn()
+                self.front.giving.refuse("the front ends")
+                self.assertEqual(self.replies, ["refused: the front ends: at least the first %d of 1000 lines were given" % kept])
+                self.turn()
+                self.assertEqual(sum(map(len, self.batches)), kept + 200)
 
 
 class Keyless(unittest.TestCase):
@@ -391,8 +469,8 @@ class Standing(unittest.TestCase):
                     self.assertEqual(standing.further, [SUB, line])
                     [batch] = standing.tail_batches(lambda entry: entry)
                     self.assertEqual(batch.lines, form.written(self.LINES[settled:]))
-                    self.assertEqual(resuming.facts_in(self.log)[:2], HEAD.splitlines())
-                    self.assertLessEqual({SUB, line}, set(resuming.facts_in(self.log)))
+                    self.assertEqual(resuming.facts_in(self.log, [])[:2], HEAD.splitlines())
+                    self.assertLessEqual({SUB, line}, set(resuming.facts_in(self.log, [])))
 
     def test_by_a_program(self):
         """A program that can't play it isn't given it: what to do is said."""
@@ -402,14 +480,67 @@ class Standing(unittest.TestCase):
         words = ["--tcp", "--port", "0", "--resume", "--mme", "/bin/false"]
         status, told = said(["run", folder / "subscribers", self.log, *words])
         self.assertEqual(status, 2)
-        self.assertIn(resuming.OF_LIBRARY % self.log, told)
+        self.assertIn(resuming.OF_LIBRARY % self.log + resuming.OR_FILLED, told)
+
+    def test_in_a_store(self):
+        """Of a log in a store, of which `fill` makes nothing, that isn't said."""
+        front = types.SimpleNamespace(settings=types.SimpleNamespace(library=False))
+        with self.assertRaises(Failed) as caught:
+            standby.Standby.note_further(types.SimpleNamespace(front=front), [SUB])
+        self.assertEqual(str(caught.exception), "the store's log has lines of provisioning where they were given (`#+ `), which "
+                         "`mme play` skips: go on with --library")
 
     def test_used(self):
         """Where it isn't known which vectors were used, those count too that were given while it ran."""
         self.LINES.insert(1, "in 0 000c00")
         self.addCleanup(self.LINES.remove, "in 0 000c00")
         self.write(0)
-        self.assertIn(vector(OTHER, 1), resuming.perhaps_used(self.log))
+        self.assertIn(vector(OTHER, 1), resuming.perhaps_used(self.log, []))
+
+    def begun_anew(self, head, *words):
+        """The vectors that count as used once a run begins anew, after a log of an earlier boot or without its LOG.used."""
+        folder = pathlib.Path(self.log).parent
+        (folder / "subscribers").write_text(head)
+        words = ["--tcp", "--port", "0", "--mme", "/bin/false", "--keep", "1", *words]
+        told = said(["run", folder / "subscribers", self.log, *words])[1]
+        self.assertIn("front: the MME ended with status 1\n", told)
+        return (folder / "log.used").read_text().splitlines()
+
+    def test_a_beginning_that_is_lost(self):
+        """Where no segment has the head that a log began with, what counts has it; where that is lost too, all vectors of the
+        subscribers' file count as used, and those that were given."""
+        self.LINES.insert(1, "in 0 000c00")
+        self.addCleanup(self.LINES.remove, "in 0 000c00")
+        head, other = HEAD + vector(IMSI, 7) + "\n", HEAD + vector(IMSI, 8) + "\n"
+        entries = [" ".join(vector(*given).split(" ")[1:3]) for given in ((OTHER, 1), (IMSI, 7), (IMSI, 8))]
+        for lost, used in (((), entries[:2]), (("log",), entries[:2]), (("log", "log.counts"), entries[::2])):
+            for words in (("--resume", "--anew"), ()):
+                with self.subTest(lost=lost, words=words), tempfile.TemporaryDirectory() as folder:
+                    self.log = folder + "/log"
+                    self.write(5, head=head)
+                    for name in lost:
+                        path = pathlib.Path(folder, name)
+                        path.write_text("# segment 2, begun now\n%s" % path.read_text().rpartition("begun ")[2].partition("\n")[2])
+                    if words:
+                        pathlib.Path(folder, "log.unsynced").write_text("another\n")
+                    self.assertEqual(sorted(self.begun_anew(other, *words)), sorted(used))
+
+    def test_a_line_that_is_damaged(self):
+        """A vector that was given and can't be read any more is perhaps one of the subscribers' file, which count as used then. The
+        file with those that were used can be read again."""
+        self.write(0)
+        text = vector(OTHER, 1)
+        for place in (0, 8, 25, len("vec " + OTHER)):
+            with self.subTest(place=place), tempfile.TemporaryDirectory() as folder:
+                path = pathlib.Path(folder, "log")
+                path.write_text("".join([
+                    HEAD, vector(IMSI, 7), "\n# segment 1, begun now\n", runs.FURTHER, SUB, "\nin 0 000c00\n", runs.FURTHER,
+                    text[:place], "\0" * 5, text[place + 5:], "\n"]))
+                pathlib.Path(folder, "log.unsynced").write_text("another\n")
+                self.log = str(path)
+                self.assertEqual(self.begun_anew(HEAD + "\n".join([SUB, text, ""]), "--resume", "--anew"), [
+                    " ".join(line.split(" ")[1:3]) for line in (vector(IMSI, 7), text)])
+                UsedVectors(self.log + ".used").close()
 
     def test_of_a_log(self):
         """Such a line isn't one of a subscribers' file."""
@@ -417,6 +548,36 @@ class Standing(unittest.TestCase):
         (folder / "subscribers").write_text(HEAD + runs.FURTHER + SUB + "\n")
         status, told = said(["run", folder / "subscribers", self.log, "--tcp", "--port", "0", "--mme", "/bin/false"])
         self.assertEqual((status, told), (2, "front: %s: line 3: %s\n" % (folder / "subscribers", provisioning.OF_A_LOG)))
+
+
+    def test_same_rand(self):
+        """Nor has such a file two vectors of a subscriber with the same RAND, and nothing like it is given to a program."""
+        folder, first = pathlib.Path(self.log).parent, vector(IMSI, 0xab)
+        words = [folder / "subscribers", self.log, "--tcp", "--port", "0", "--mme", "/bin/false"]
+        for second in (first, vector(IMSI, 0xab, 2), first.upper().replace("VEC", "vec")):
+            (folder / "subscribers").write_text("%s%s\n# more\n%s\n" % (HEAD, first, second))
+            status, told = said(["run", *words])
+            self.assertEqual((status, told), (2, "front: %s: line 5: %s\n" % (
+                folder / "subscribers", provisioning.SAME_RAND % IMSI)))
+            if second != first:
+                with self.assertRaisesRegex(runs.Fault, "line 2: " + provisioning.SAME_RAND % IMSI):
+                    provisioning.Head([*HEAD.splitlines(), first]).with_more([SUB, second])
+
+
+class Asking(tools.InFolder):
+    """`ask .. give`."""
+
+    def test_long(self):
+        """It waits for its answer, however long that takes; other words don't."""
+        asking = unittest.mock.MagicMock()
+        asking.__enter__.return_value = asking
+        asking.makefile.return_value.readline.return_value = "taken\n"
+        lines = str(self.file("lines", SUB))
+        with unittest.mock.patch.object(command, "connected", return_value=asking), contextlib.redirect_stdout(io.StringIO()):
+            for word, more, seconds in (("give", lines, None), ("data", IMSI, limits.GIVING_SECONDS + limits.HOLD_SECONDS)):
+                command.ask(command.parser("").parse_args(["ask", "control", word, more]))
+                self.assertEqual(asking.settimeout.mock_calls, [unittest.mock.call(seconds)])
+                asking.settimeout.reset_mock()
 
 
 class Long(Turned):
@@ -466,6 +627,16 @@ class Told(unittest.TestCase):
             batch.add(runs.FURTHER + "sub %015d 0a000000 0a000000 00000000" % place)
         made.take(batch)
         self.assertEqual((made.world, made.why_not), (None, teller.TOO_MANY))
+        made.refuse()
+        self.assertEqual(made.why_not, teller.TOO_MANY)
+
+    def test_refused(self):
+        """It ends where the MME refused a line that it took."""
+        front = types.SimpleNamespace(exchange=types.SimpleNamespace(follow=none, journal=None), loop=None)
+        made = teller.Teller(front)
+        made.begin(provisioning.Head(HEAD.splitlines()))
+        made.refuse()
+        self.assertEqual((made.world, made.why_not), (None, teller.REFUSED))
 
 
 class Gathered(tools.InFolder):
@@ -544,6 +715,49 @@ class Gathered(tools.InFolder):
         done = tools.ran("front", "fill", "--head", self.file("vectors", ""), log)
         self.assertEqual((done.returncode, done.stdout, done.stderr.decode()), (2, b"", "front: %s\n" % (
             heads.TOO_MANY % (IMSI, 65, 64))))
+
+    def test_much(self):
+        """What is past is forgotten now and then."""
+        lines = ["tick 1\n"] * 30
+        text = HEAD + "# segment 1, begun now\n" + "".join([*lines, runs.FURTHER, SUB, "\n"])
+        with unittest.mock.patch.object(limits, "FORGETS_AFTER", 10), unittest.mock.patch.object(heads.World, "forget") as forget:
+            made = heads.Gathered(lambda: iter(text.encode().splitlines(keepends=True)))
+            self.assertEqual(list(made.differences()), [])
+        self.assertEqual(forget.mock_calls, [unittest.mock.call(limits.MOST_LINES_OF_PHONE)] * 6)
+
+    def test_damaged(self):
+        """A line that is none is told by its number, of the log as it is printed."""
+        begun, given = HEAD + "# segment 1, begun now\n", runs.FURTHER + SUB + "\n"
+        for text, number, why in (
+                (begun + "up\n" + given, 5, "up has 1 field, not 0"), (begun + "u 0\n" + given, 5, "no line begins with 'u'"),
+                (begun + "in 0 0g\n" + given, 5, "'0g' aren't octets in hex"),
+                (begun + "show %s\n" % OTHER + given, 5, "nobody has the IMSI " + OTHER),
+                (begun + runs.FURTHER + "vec 1\n", 3, "vec has 5 fields, not 1"),
+                (HEAD + "sub\n# segment 1, begun now\n", 3, "sub has 4 fields, not 0")):
+            with self.subTest(why=why), self.assertRaises(runs.Fault) as caught:
+                lines = text.encode().splitlines(keepends=True)
+                list(heads.Gathered(lambda lines=lines: iter(lines)).differences())
+            self.assertEqual(str(caught.exception), heads.DAMAGED % (number, why))
+
+    def test_a_comment(self):
+        """A comment of the subscribers' file doesn't end the head, whatever it begins with."""
+        text = HEAD + "# segment of the north\n%s\n# segment 1, begun now\nup 0\n" % SUB
+        lines = text.encode().splitlines(keepends=True)
+        made = heads.Gathered(lambda: iter(lines))
+        self.assertEqual((made.head, list(made.lines())), (lines[:4], lines))
+
+    def test_unsure(self):
+        """Of a log that may lack what was answered nothing is printed, since a run could go on after it."""
+        log = self.file("log", HEAD + "# segment 1, begun now\n")
+        words = "fill", "--head", self.file("vectors", ""), log
+        for end, why in ((".unsynced", "%s was written without being synced" % log), (".counts.given-up", "%s was given up" % log)):
+            with self.subTest(end=end):
+                beside = self.file("log" + end, "another\n")
+                done = tools.ran("front", *words)
+                self.assertEqual((done.returncode, done.stdout), (2, b""))
+                self.assertIn("front: %s" % why, done.stderr.decode())
+                pathlib.Path(beside).unlink()
+        self.assertEqual(tools.ran("front", *words).returncode, 0)
 
     def test_keyless(self):
         """A vector gets its keys in the head; without --head where it stands."""

@@ -12,20 +12,22 @@ the run ends before, the log has the first of the lines, and the others are give
 subscribers' file. `show` of a subscriber who was given stands in no log, since `mme play` would end there.
 """
 import collections
+import functools
 import re
 import time
 
 from tools import runs
 
 from tools.fronting import limits
-from tools.fronting.provisioning import OF_A_LOG, fields_of_further
+from tools.fronting.provisioning import OF_A_LOG, SAME_RAND, fields_of_further
 
 # A line as it has to be, H for a digit in hex; what is looked at is the IMSI with the address, or with RAND.
 FORM = re.compile("sub ([0-9]{14,15}) (H{8})(?: H{8}){2}|vec ([0-9]{14,15}) (H{32}) H{32} (?:HH){4,16} H{64}".replace(
     "H", "[0-9a-fA-F]"))
-# What is said of another, and nothing of what it has, since that may be keys.
+# What is said of another, and nothing of what it has, since that may be keys, also where it begins with them.
 LENGTHS = {"sub": "an address, an S-GW's address and its tunnel end have 8 digits in hex each",
            "vec": "RAND and AUTN have 16 octets in hex, XRES 4 to 16, and KASME 32"}
+TOO_MANY = "%s would have %d vectors that aren't spent or answered yet, and has %d at most"
 
 
 def parts_of(lines):
@@ -50,12 +52,14 @@ class Further:
     def __init__(self, head, stock, used, form):
         self.head, self.stock, self.used, self.form = head, stock, used, form.further()
         self.number, self.lines = 0, []
-        self.imsis, self.places, self.known, self.vectors = set(), set(), set(), collections.Counter()
+        self.imsis, self.places, self.known, self.rands, self.vectors = set(), set(), set(), set(), collections.Counter()
 
     def take(self, line):
         """Takes one more line; a fault where it can't be given."""
         self.number += 1
         try:
+            if len(line) > runs.LONGEST_LINE:
+                raise runs.Fault("longer than %d octets" % runs.LONGEST_LINE)
             if line.startswith(runs.FURTHER):
                 raise runs.Fault(OF_A_LOG)
             if line and not line.startswith("#"):
@@ -67,6 +71,8 @@ class Further:
     def look_at(self, line):
         found = FORM.fullmatch(line)
         if found is None:
+            if line.partition(" ")[0] not in runs.WORDS:
+                raise runs.Fault("no line begins so")
             word, _ = fields_of_further(line)
             raise runs.Fault(LENGTHS[word])
         if line in self.head.known or line in self.known:
@@ -90,16 +96,19 @@ class Further:
         self.places.add(address)
 
     def look_at_vector(self, imsi, rand, line):
-        """Whether its subscriber is there and has room for it, and it wasn't used."""
+        """Whether its subscriber is there, has room for it and none like it, and it wasn't used."""
         slot = self.head.slots.get(imsi)
         if slot is None and imsi not in self.imsis:
             raise runs.Fault("%s has no line sub" % imsi)
         self.used.check_vector(imsi, rand)
         self.vectors[imsi] += 1
-        count = self.vectors[imsi] + (self.stock.left(slot) if slot is not None else 0)
+        count = self.vectors[imsi] + (self.stock.most_unspent(slot) if slot is not None else 0)
         if count > limits.MOST_UNSPENT:
-            raise runs.Fault("%s would have %d vectors that aren't spent, and has %d at most" % (imsi, count, limits.MOST_UNSPENT))
+            raise runs.Fault(TOO_MANY % (imsi, count, limits.MOST_UNSPENT))
         self.form.add(line)
+        if (imsi, rand) in self.rands or slot is not None and self.stock.place_of(slot, bytes.fromhex(rand)) is not None:
+            raise runs.Fault(SAME_RAND % imsi)
+        self.rands.add((imsi, rand))
 
 
 class Adding:
@@ -108,7 +117,8 @@ class Adding:
     def __init__(self, front, parts, reply):
         self.front, self.parts, self.reply = front, parts, reply
         self.further = Further(front.head, front.stock, front.used, front.form)
-        self.place, self.timer, self.is_over, self.refused = 0, None, False, []
+        self.place = self.kept = 0  # how many lines were put, and how many of these are known to stand in the log
+        self.timer, self.is_over, self.refused = None, False, []
 
     def go_on(self):
         """Looks at lines for a while; once it has seen all, gives the first of them."""
@@ -133,12 +143,19 @@ class Adding:
         exchange, lines = self.front.exchange, self.further.lines[self.place:self.place + limits.ADDED_LINES]
         for line in lines:
             exchange.put(runs.FURTHER + line)
+            exchange.batch.has_further = True
         self.place += len(lines)
+        if not lines:
+            self.has_given()
+            return
+        exchange.when_kept(functools.partial(self.has_kept, self.place))
         if self.place < len(self.further.lines):
             exchange.batch.after.append(self.put)
-        elif lines:
-            exchange.when_kept(self.has_given)
-        else:
+
+    def has_kept(self, count):
+        """So many lines stand in the log."""
+        self.kept = count
+        if count == len(self.further.lines):
             self.has_given()
 
     def is_refused(self, number, line):
@@ -160,7 +177,7 @@ class Adding:
     def refuse(self, why):
         """No more of it is given."""
         if not self.is_over:
-            self.end("refused: %s: the first %d of %d lines were given" % (why, self.place, len(self.further.lines)))
+            self.end("refused: %s: at least the first %d of %d lines were given" % (why, self.kept, len(self.further.lines)))
 
     def end(self, answer):
         self.is_over, self.front.giving = True, None

@@ -17,7 +17,7 @@ from tools.fronting.etcd import access_of
 from tools.fronting.exchange import END, GO_ON, REFUSE
 from tools.fronting.faults import WRONG, told
 from tools.fronting.front import Front
-from tools.fronting.heads import Gathered
+from tools.fronting.heads import Gathered, check_sure
 from tools.fronting.keys import NO, YES, Filling, read_vectors
 from tools.fronting.listening import ControlSocket, listener_of, page_listener_of
 from tools.fronting.locking import Lock
@@ -143,7 +143,8 @@ def ask(given):
     try:
         octets = question(given)
         with connected(given.control, given.wait) as asking:
-            asking.settimeout(limits.GIVING_SECONDS + limits.HOLD_SECONDS)
+            # Many lines are given in the time that they take.
+            asking.settimeout(None if given.word in OF_FILE else limits.GIVING_SECONDS + limits.HOLD_SECONDS)
             try:
                 asking.sendall(octets)
                 answers = asking.makefile(encoding="utf-8", errors="replace", newline="\n")
@@ -184,6 +185,7 @@ def fill(given):
     try:
         read = functools.partial(filled, read_vectors(given.vectors), given.log)
         if given.head:
+            check_sure(given.log)
             gathered = Gathered(read)
             for text in gathered.differences():
                 versions.complain(text)

@@ -26,7 +26,8 @@ from tools.fronting.meters import Meters
 from tools.fronting.mme import LINE_IS_WRONG, LibraryMme, PipedMme, library
 from tools.fronting.notify import Manager
 from tools.fronting.provisioning import Head
-from tools.fronting.resuming import NAMED, OF_LIBRARY, NoResume, Standing, facts_in, make_way, note_stations, parts_of, perhaps_used
+from tools.fronting.resuming import (
+    NAMED, OF_LIBRARY, OR_FILLED, NoResume, Standing, facts_in, make_way, note_stations, parts_of, perhaps_used)
 from tools.fronting.soundness import Soundness
 from tools.fronting.standby import Standby
 from tools.fronting.stock import Stock
@@ -84,10 +85,10 @@ class Front:
 
     def put_away(self):
         """The log that stands makes way. Where it isn't known which of its vectors were used, all count as used."""
-        lost = [] if self.used.known else perhaps_used(self.settings.log)
+        lost = [] if self.used.known else perhaps_used(self.settings.log, self.head.facts)
         make_way(self.settings.log, self.settings.keep)
         if lost:
-            self.used.add(lost)
+            self.count_used(lost)
             self.voice.say("used_unknown", "%s is lost: all vectors of the log count as used" % self.used.path)
 
     def has_log(self):
@@ -98,9 +99,14 @@ class Front:
         if why and resumes and not self.settings.anew:
             raise Failed("%s (--anew begins with nobody attached)" % why, WRONG)
         if why:
-            self.used.add(facts_in(log) or self.head.facts)
+            self.count_used(facts_in(log, self.head.facts))
             self.voice.say("not_resumed", "the last run isn't resumed, and nobody is attached: %s" % why)
         return resumes and not why and bool(parts_of(log))
+
+    def count_used(self, lines):
+        """All vectors of these lines of a log count as used; where one of them is damaged, those of the subscribers' file too."""
+        if not self.used.add(lines):
+            self.used.add(self.head.facts)
 
     def write_to(self, journal):
         """From now on what the MME is given stands in this log, and on disk where it is to be synced. The vectors that were used are
@@ -134,10 +140,13 @@ class Front:
 
     def start_mme(self, head):
         """An MME with this head, and what follows its phones."""
+        self.census.begin()
         self.head, self.known, self.begun = head, set(head.slots), len(head.imsis)
         if self.settings.library:
             head.prepare()
         self.stock = Stock(head, self.has_few)
+        if self.followers is not None:
+            self.followers.lengthen()
         self.exchange.begin(self.make, head)
         if self.teller is not None:
             self.teller.end(None)
@@ -242,7 +251,7 @@ class Front:
         """The head to play a log with, whose lines those of the subscribers' file begin with, and then with those given since."""
         log, subscribers = self.settings.log, self.settings.subscribers
         if standing.further and not self.settings.library:
-            raise NoResume(OF_LIBRARY % log)
+            raise NoResume(OF_LIBRARY % log + OR_FILLED)
         if standing.has_keys != self.form.has_keys:
             stands, wanted = ("the vectors' keys" if form.has_keys else "no keys" for form in (standing, self.form))
             raise NoResume("%s keeps %s, and this run's log is to keep %s (--log-keys)" % (log, stands, wanted))
@@ -476,14 +485,17 @@ class Front:
         self.form.add(lines)
         self.stock.lengthen(self.head)
         if self.followers is not None:
-            self.followers.lengthen()
+            self.exchange.do(self.exchange.marks[0].turn, self.followers.lengthen)
 
     def was_given(self, imsi):
         """Whether a subscriber isn't of the log's head, so that `mme play` ends at `show` of it."""
         return self.settings.library and self.head.slots[imsi] >= self.begun
 
     def has_refused(self, number, line):
-        """The MME has refused a further line of provisioning, of those that are given now or of a log."""
+        """The MME has refused a further line of provisioning, of those that are given now or of a log. As it stands in the log, it
+        isn't given again."""
+        self.head.known.add(line)
+        self.teller.refuse()
         if self.giving is not None and not self.exchange.is_replaying:
             self.giving.is_refused(number, line)
 

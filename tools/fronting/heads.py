@@ -13,12 +13,22 @@ from tools.eps.telling import BriefNow
 from tools.eps.world import World
 
 from tools.fronting import limits
+from tools.fronting.resuming import why_given_up
+from tools.fronting.segments import NUMBERED
+from tools.fronting.syncing import why_unsure
 
-FURTHER, SEGMENT = runs.FURTHER.encode(), b"# segment "
+FURTHER = runs.FURTHER.encode()
 KEPT = 1 << 10  # MACs of which it is known whether they are right
 TOO_MANY = "%s would have %d vectors in the head, and `mme play` takes %d: the library alone plays this log"
 OTHERWISE = "line %d, as it is printed here, is answered otherwise than it was, to %s: what was given later is there already"
+DAMAGED = "line %d, as it is printed here, is damaged: %s"
 GROWN = "the log has grown meanwhile: begin again"
+
+
+def check_sure(log):
+    """Refuses a log that may lack what was answered: no run may go on after what is made of it."""
+    if why := why_given_up(log) or why_unsure(log):
+        raise runs.Fault(why)
 
 
 class Gathered:
@@ -28,11 +38,13 @@ class Gathered:
     def __init__(self, read):
         self.read, self.head, self.further, is_head = read, [], [], True
         for line in read():
-            is_head = is_head and not line.startswith(SEGMENT)
+            is_head = is_head and not NUMBERED.match(line)
             if is_head:
                 self.head.append(line)
             elif line.startswith(FURTHER):
                 self.further.append(line[len(FURTHER):])
+        for number, line in enumerate(self.head + self.further, 1):
+            read_line(number, line, runs.WORDS)
         self.check_vectors()
 
     @property
@@ -52,7 +64,7 @@ class Gathered:
         """The lines after the head, with those that were given."""
         is_head, count = True, 0
         for line in self.read():
-            is_head = is_head and not line.startswith(SEGMENT)
+            is_head = is_head and not NUMBERED.match(line)
             if not is_head:
                 count += line.startswith(FURTHER)
                 yield line
@@ -78,20 +90,32 @@ class Gathered:
                     return
                 continue
             number += 1
+            if not number % limits.FORGETS_AFTER:
+                for world in (before, after):
+                    world.forget(limits.MOST_LINES_OF_PHONE)
             found = [owner for owner in owners(*(answers(world, number, line) for world in (before, after))) if owner not in known]
             known.update(found)
             if found:
                 yield OTHERWISE % (number, " and ".join(runs.owner_text(owner, list(after.by_imsi)) for owner in found))
 
 
+def read_line(number, line, words, then=lambda *found: None):
+    """What is made of the word and the fields of a line that begins with one of these words; nothing of a comment."""
+    text = line.rstrip(b"\n")
+    if not text or text.startswith(b"#"):
+        return None
+    try:
+        return then(number, *runs.fields_of(text, words))
+    except runs.Fault as fault:
+        raise runs.Fault(DAMAGED % (number, fault)) from None
+
+
 def answers(world, number, line):
     """What a line is answered: a state or a refusal, and messages."""
-    text = line.decode("latin-1").rstrip("\n")
-    if not text or text.startswith("#"):
-        return None, []
-    word, *fields = text.split(" ")
-    answer, sent, _ = world.take(runs.event_of(number, word, fields))
-    return answer, sent
+    event = read_line(number, line, runs.EVENTS, runs.event_of)
+    if event and event.word == "show" and event.imsi not in world.by_imsi:
+        raise runs.Fault(DAMAGED % (number, "nobody has the IMSI %s" % event.imsi))
+    return world.take(event)[:2] if event else (None, [])
 
 
 def owners(before, after):

@@ -7,6 +7,7 @@ from tools import runs
 from tools.fronting.faults import Failed, WRONG
 
 OF_A_LOG = "it stands so in a log alone: here `sub` or `vec` comes first"  # of a line that begins with runs.FURTHER
+SAME_RAND = "%s has a vector with this RAND already"
 
 
 class Head:
@@ -64,11 +65,16 @@ class Head:
 
     def with_more(self, lines):
         """This head and further lines, which are `sub` of a new IMSI and `vec` of one that has a place."""
-        known, facts = set(self.imsis), set(self.facts)
+        known, facts, rands = set(self.imsis), set(self.facts), set()
+        of = {line.split(" ", 2)[1] for line in lines if line.startswith("vec ")}
+        for line in facts:
+            if line.startswith("vec ") and line.split(" ", 2)[1] in of:
+                check_rand(line, rands)
         for number, line in enumerate(lines, 1):
             if line and not line.startswith("#"):
                 try:
                     known.add(imsi_of_further(line, known, facts))
+                    check_rand(line, rands)
                 except runs.Fault as fault:
                     raise runs.Fault("line %d: %s" % (number, fault)) from None
                 facts.add(line)
@@ -100,6 +106,26 @@ def imsi_of_further(line, known, facts):
     return imsi
 
 
+def check_rand(line, seen):
+    """Notes the IMSI and the RAND of a vector, which is for one challenge; refuses one that has both of another's."""
+    if line.startswith("vec "):
+        _, imsi, rand, _ = line.split(" ", 3)
+        entry = imsi + rand.lower()
+        if entry in seen:
+            raise runs.Fault(SAME_RAND % imsi)
+        seen.add(entry)
+
+
+def check_rands(lines, name):
+    """Refuses a file with two vectors of a subscriber that have the same RAND."""
+    seen = set()
+    for number, line in enumerate(lines, 1):
+        try:
+            check_rand(line, seen)
+        except runs.Fault as fault:
+            raise Failed("%s: line %d: %s" % (name, number, fault), WRONG) from None
+
+
 def read_head(octets, name, code=None):
     """The head in a file's octets."""
     trace = runs.read_trace(octets, name)
@@ -111,6 +137,7 @@ def read_head(octets, name, code=None):
     for number, line in enumerate(lines, 1):
         if line.startswith(runs.FURTHER):
             raise Failed("%s: line %d: %s" % (name, number, OF_A_LOG), WRONG)
+    check_rands(lines, name)
     if runs.lacks_keys(trace.head):
         raise Failed("%s: a vector has no keys: they were left out of a log" % name, WRONG)
     head = Head(lines)

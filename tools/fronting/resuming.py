@@ -25,8 +25,8 @@ FURTHER = runs.FURTHER.encode()
 NAMED = re.compile(rb"^(?:(?:data|cancel|show) (\d+)$|%ssub (\d+) )" % re.escape(FURTHER), re.MULTILINE)
 PIECE = 1 << 18  # octets that the MME is given at once
 # Why a program can't go on with a log.
-OF_LIBRARY = ("%s has lines of provisioning where they were given (`#+ `), which `mme play` skips: go on with --library, or with "
-              "what `mme-front fill --head` makes of it (deploy/README.md)")
+OF_LIBRARY = "%s has lines of provisioning where they were given (`#+ `), which `mme play` skips: go on with --library"
+OR_FILLED = ", or with what `mme-front fill --head` makes of it (deploy/README.md)"  # of a log in files
 OTHERS = (".counts", GIVEN_UP, UNSYNCED)  # what belongs to a log, after its name
 COMMENTS = (runs.LEFT_OUT, "# came protected: ", runs.BEGUN_ANEW)  # how lines begin that are about the line below them
 
@@ -117,27 +117,37 @@ def mapped(path):
         return mmap.mmap(file.fileno(), 0, access=mmap.ACCESS_READ)
 
 
+def why_given_up(path):
+    """Why a log hasn't all that was answered, where its run went on without it."""
+    if os.path.lexists(path + GIVEN_UP):
+        return "%s was given up, and the run went on without it (%s)" % (path, path + GIVEN_UP)
+    return None
+
+
 def head_facts(path):
-    """The lines of provisioning that a log begins with, or nothing where that can't be read."""
-    try:
-        older = older_segments(path)
-        octets = pathlib.Path(older[min(older)] if older else path).read_bytes()
-    except OSError:
-        return []
-    found = NUMBERED.search(octets)
-    return octets[:found.start()].decode("latin-1").splitlines() if found else []
+    """The lines of provisioning that a log begins with, by what happened or what counts, or nothing where neither can be read."""
+    for series in (path, path + ".counts", path + GIVEN_UP):
+        with contextlib.suppress(OSError):
+            older = older_segments(series)
+            octets = pathlib.Path(older[min(older)] if older else series).read_bytes()
+            found = NUMBERED.search(octets)
+            head = octets[:found.start()] if found else b""
+            if head and b"\0" not in head:
+                return head.decode("latin-1").splitlines()
+    return []
 
 
-def facts_in(path):
-    """The lines of provisioning that a log begins with, and those that were given since, as far as they can be read."""
+def facts_in(path, others):
+    """The lines of provisioning that a log begins with, and those that were given since, as far as they can be read; of a log
+    whose beginning is lost these others too."""
     parts = [part for part in map(pathlib.Path, parts_of(path).values()) if part.is_file()]
-    return head_facts(path) + [line for part in parts for line in further_in(part.read_bytes())]
+    return (head_facts(path) or others) + [line for part in parts for line in further_in(part.read_bytes())]
 
 
-def perhaps_used(path):
-    """The lines of provisioning of a log with messages of phones, whose vectors were perhaps used."""
+def perhaps_used(path, others):
+    """The same of a log with messages of phones, whose vectors were perhaps used."""
     parts = map(pathlib.Path, parts_of(path).values())
-    return facts_in(path) if any(PHONE.search(part.read_bytes()) for part in parts if part.is_file()) else []
+    return facts_in(path, others) if any(PHONE.search(part.read_bytes()) for part in parts if part.is_file()) else []
 
 
 def own_number(path, octets):
@@ -192,8 +202,8 @@ class Standing:
 
     def __init__(self, path):
         self.path = path
-        if os.path.lexists(path + GIVEN_UP):
-            raise NoResume("%s was given up, and the run went on without it (%s)" % (path, path + GIVEN_UP))
+        if why := why_given_up(path):
+            raise NoResume(why)
         try:
             self.counts, self.happened = read_series(path + ".counts"), read_series(path)
         except OSError as fault:

@@ -17,6 +17,7 @@ from tools.fronting import limits
 TOO_FAST = "messages came faster than their reasons could be found"
 TOO_MANY = "they are found for %d subscribers with %d vectors at the most" % (limits.MOST_TOLD_OF, limits.MOST_TOLD_BY)
 UNREADABLE = "what the MME was given can't be read on"
+REFUSED = "the MME refused a line of provisioning that was given"
 UNKNOWN_LINE = "?, before this start or in no log"
 END = object()  # what comes after the last step
 LINES = 20  # of a head that are read in a step
@@ -90,6 +91,11 @@ class Teller:
         self.world, self.why_not = None, why
         self.waiting.clear()
         self.lines = self.octets = 0
+
+    def refuse(self):
+        """The MME refused a further line of provisioning, which the model took or is to take."""
+        if self.world is not None:
+            self.end(REFUSED)
 
     # What the MME is given.
 

@@ -91,15 +91,16 @@ class UsedVectors:
         os.fsync(self.file)
 
     def add(self, lines):
-        """Writes the vectors among lines of provisioning as used, on disk too."""
-        for entry in filter(None, map(vector_of, lines)):
-            if entry not in self.known:
-                self.noted[entry] = None
+        """Writes the vectors among lines of provisioning as used, on disk too; whether each could be read."""
+        entries = list(filter(None, map(vector_of, lines)))
+        whole = [entry for entry in entries if LINE.fullmatch(entry)]
+        self.noted.update(dict.fromkeys(entry for entry in whole if entry not in self.known))
         try:
             self.write()
             self.sync()
         except OSError as fault:
             raise Failed("%s: %s" % (self.path, told(fault)), LOG_FAILS) from None
+        return len(whole) == len(entries) and not any("\0" in line for line in lines)
 
     def forget_noted(self):
         """What was noted doesn't go out."""
