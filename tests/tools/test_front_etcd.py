@@ -396,9 +396,9 @@ class StandingBy(Stored):
 
 
 class StandingByFor(StandingBy):
-    """One by all of its words on the store."""
+    """One by all of its words on the store, with the silence that it waits for elsewhere."""
 
-    front = HURRIED
+    front = CHANGED, "patient"
 
     def __init__(self, test, words):
         Running.__init__(self, test, "--second", "0.1", *words)
@@ -792,6 +792,7 @@ class Secret(tools.InFolder):
             members.kill(place)
             members.start(place, "existing")
             self.assertEqual(station.says(REMEMBERED), REMEMBERED)
+            members.is_there()
         self.assertNotIn(b"s3cret", pathlib.Path("/proc/%d/cmdline" % leader.process.pid).read_bytes())
         standby.follows_all()
         leader.process.kill()
