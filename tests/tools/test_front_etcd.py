@@ -83,7 +83,8 @@ class Answers(unittest.TestCase):
         body = b'{"header": {}}'
         for answer, words in ((b"220 ready\r\n\r\n", etcd.UNREADABLE), (b"ready\r\n\r\n", etcd.UNREADABLE),
                               (b"HTTP/1.1 200 OK\r\nContent-Length: %d\r\n\r\n%s" % (len(body), body), etcd.UNREADABLE),
-                              (b"HTTP/1.1 200 OK\r\nContent-Length: 2\r\n\r\n{}", etcd.UNREADABLE), (b"", "it ended the connection")):
+                              (b"HTTP/1.1 200 OK\r\nContent-Length: 2\r\n\r\n{}", etcd.UNREADABLE),
+                              (b"", "it ended the connection")):
             with self.subTest(answer=answer), socket.create_server(("127.0.0.1", 0)) as server:
                 access = etcd.access_of(["http://127.0.0.1:%d" % server.getsockname()[1]])._replace(user="x", password="y")
                 loop, told = Loop(), []
@@ -505,7 +506,7 @@ class Fronts(unittest.TestCase):
         status, told = leader.ended()
         self.assertEqual((status, station.got, station.has_ended()), (LOG_FAILS, b"", True))
         self.assertIn("the store has taken no turn for 2 s", told)
-        self.assertIn(b"the store isn't there", standby.said())
+        standby.until(lambda: b"the store isn't there" in standby.said())
         self.assertNotRegex(standby.told, GOES_ON)
         for place in (0, 1):
             self.members.start(place)
@@ -719,7 +720,7 @@ class Full(unittest.TestCase):
         self.assertTrue(Connected(leader.port).has_ended())
         self.make_room()
         station.receive()
-        self.assertIn(b"the log can be written again", leader.said())
+        leader.until(lambda: b"the log can be written again" in leader.said())
         self.assertEqual((station.says(REMEMBERED), leader.remembers()), (REMEMBERED, answered + 2))
 
 
