@@ -12,7 +12,7 @@ import re
 
 from tests.docs import tables
 from tests.docs.definitions_check import STANDARD
-from tests.docs.refusals_check import owner_of
+from tests.docs.refusals_check import owned
 
 DOCUMENT = "docs/PROMISES.md"
 LAWS = re.compile(r"crates/(?:laws_\w+/src/.*|\w+/src/laws(?:/.*)?)\.rt")
@@ -67,13 +67,7 @@ def comment_above(lines, at):
 
 def calls_of_file(lines):
     """The functions, types and traits that others may name, each with its comment's first paragraph; methods under their type."""
-    owner, is_trait = "", False
-    for at, line in enumerate(lines):
-        if re.match(r"(pub )?(impl|trait)\b", line):
-            head = " ".join(map(str.strip, lines[at:at + 9])).split("{")[0]
-            owner, is_trait = owner_of(head), "trait " in head
-        elif line.startswith("}"):
-            owner, is_trait = "", False
+    for at, line, owner, is_trait in owned(lines):
         found = NAMED.match(line)
         if found and owner is not None and (found[2] or found[1] and is_trait):
             holder = owner + "::" if owner and found[1] else ""

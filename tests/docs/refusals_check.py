@@ -85,15 +85,22 @@ def signature_of(lines, indent, is_trait):
     return "\n".join(lines)
 
 
-def functions_of(text, names):
-    """The public functions of a file, each with its owner, and those of its traits."""
-    lines, owner, is_trait = text.split("\n"), "", False
+def owned(lines):
+    """Each line of a file with its place, the type or trait whose block it stands in, and whether that is a trait."""
+    owner, is_trait = "", False
     for at, line in enumerate(lines):
         if re.match(r"(pub )?(impl|trait)\b", line):
             head = " ".join(map(str.strip, lines[at:at + 9])).split("{")[0]
             owner, is_trait = owner_of(head), "trait " in head
         elif line.startswith("}"):
             owner, is_trait = "", False
+        yield at, line, owner, is_trait
+
+
+def functions_of(text, names):
+    """The public functions of a file, each with its owner, and those of its traits."""
+    lines = text.split("\n")
+    for at, line, owner, is_trait in owned(lines):
         found = re.match(r"( *)(pub )?(?:const )?fn (\w+)", line)
         if found and owner is not None and (found.group(2) or is_trait):
             contract = " ".join(signature_of(lines[at:at + 60], found.group(1), is_trait).split())
