@@ -4,7 +4,7 @@ Of each vector such a log has RAND and AUTN, which are sent plain, and `-` in th
 its challenge sends XRES itself: where a message has one, the log has zeros, after a line that says whose it was. What the file of
 subscribers has as comments isn't there.
 
-    vec 001010000000001 RAND AUTN - -
+    vec 001010000000001 RAND AUTN - -          (or #+ vec .., where it was given while the front ran)
     # left out at octet 27: XRES of 001010000000001 RAND AUTN
     in 0 000d..
 
@@ -14,12 +14,12 @@ import re
 
 from tools import runs
 
-from tools.fronting.provisioning import Head
 from tools.fronting.segments import NUMBERED_LINE
 
 YES, NO = "yes", "no"  # whether a log keeps keys
 PUT_BACK = re.compile(re.escape(runs.LEFT_OUT) + r"(\d+): XRES of (\d+ [0-9a-f]+ [0-9a-f]+)")
 MESSAGES = ("in ", "# came protected: in ")  # how lines begin that end with a message in hex
+ALIKE = "two vectors of %s have the same RAND and AUTN, and a log without keys can't tell them apart"
 XRES = re.compile("(?:[0-9a-f]{2}){4,16}")  # TS 33.102 clause 6.3.7: 4 to 16 octets
 
 
@@ -38,6 +38,11 @@ def without_keys(line):
     return " ".join(line.split(" ")[:4] + [runs.NO_KEY] * 2) if line.startswith("vec ") else line
 
 
+def apart(line):
+    """How a line begins that was given where it stands, and what it is; of another line nothing, and itself."""
+    return (runs.FURTHER, line[len(runs.FURTHER):]) if line.startswith(runs.FURTHER) else ("", line)
+
+
 class Vectors:
     """The keys of vectors by the vectors' names: of lines, and of those that were known before."""
 
@@ -47,14 +52,15 @@ class Vectors:
             if line.startswith("vec "):
                 self.add(line)
 
-    def add(self, line):
-        """One more vector, by its line."""
+    def add(self, line, before=None):
+        """One more vector, by its line, which stands beside those that were known before."""
         name, keys = parted(line)
         imsi = name.partition(" ")[0]
         if runs.NO_KEY in keys:
             raise runs.Fault("a vector of %s has no keys: they were left out of a log" % imsi)
-        if [key.lower() for key in self.keys.setdefault(name, keys)] != [key.lower() for key in keys]:
-            raise runs.Fault("two vectors of %s have the same RAND and AUTN, and a log without keys can't tell them apart" % imsi)
+        for other in (self.keys.setdefault(name, keys), before.keys.get(name, keys) if before else keys):
+            if other is not keys and [key.lower() for key in other] != [key.lower() for key in keys]:
+                raise runs.Fault(ALIKE % imsi)
 
     def of(self, name):
         """The keys of a vector."""
@@ -80,13 +86,24 @@ class Finder:
     """Finds where hex digits have an XRES."""
 
     def __init__(self, vectors):
-        names = {}
-        for name, (xres, _) in vectors.keys.items():
-            if XRES.fullmatch(xres.lower()):
-                names.setdefault(xres.lower(), name)
-        self.least, self.by_start = min(map(len, names), default=0), {}
-        for xres in sorted(names, key=len, reverse=True):
-            self.by_start.setdefault(xres[:self.least], []).append((xres, names[xres]))
+        self.names, self.least, self.by_start = {}, 0, {}
+        self.add(vectors.keys)
+
+    def add(self, keys):
+        """Finds those of further vectors too."""
+        fresh = {}
+        for name, (xres, _) in keys.items():
+            xres = xres.lower()
+            if xres not in self.names and XRES.fullmatch(xres):
+                self.names[xres] = fresh[xres] = name
+        least = min(map(len, fresh), default=self.least)
+        if not self.least or least < self.least:
+            self.least, self.by_start, fresh = least, {}, self.names
+        for xres, name in fresh.items():
+            alike = self.by_start.setdefault(xres[:self.least], [])
+            alike.append((xres, name))
+            if len(alike) > 1:
+                alike.sort(key=lambda found: -len(found[0]))
 
     def places(self, digits):
         """Each place of an XRES from the left, with the XRES and its vector's name; none begins in another."""
@@ -109,8 +126,9 @@ class Filling:
 
     def line(self, text):
         """A line with its keys."""
-        if text.startswith("vec ") and text.endswith(" " + runs.NO_KEY):
-            return " ".join(text.split(" ")[:4] + self.vectors.of(parted(text)[0]))
+        beginning, line = apart(text)
+        if line.startswith("vec ") and line.endswith(" " + runs.NO_KEY):
+            return beginning + " ".join(line.split(" ")[:4] + self.vectors.of(parted(line)[0]))
         if found := PUT_BACK.fullmatch(text):
             self.places.append((2 * int(found[1]), self.vectors.of(found[2])[0].lower()))
             return text
@@ -152,13 +170,38 @@ class Whole:
         """What it has of lines that the MME is given."""
         return lines
 
+    def add(self, lines):
+        """There are these further lines of provisioning."""
+
+    def further(self):
+        """What takes lines that may be further ones, each by `add`, and refuses one that the log can't have."""
+        return Anything()
+
     def filling(self):
         """What makes of its octets, whole lines in their order, those that the MME was given."""
         return lambda octets: octets
 
-    def taken_up(self, stands, given):
-        """The head to go on with after a log with the one that stands; nothing where the given one doesn't begin with it."""
-        return stands if stands.is_beginning_of(given) else None
+    def taken_up(self, standing, given):
+        """The lines that stand in a log, with all keys, where those that are given begin with them; else nothing."""
+        return standing if given[:len(standing)] == standing else None
+
+
+class Anything:
+    """Takes all lines."""
+
+    def add(self, line):
+        """One more line."""
+
+
+class Beside:
+    """Takes vectors that can be told apart, also from those that there are."""
+
+    def __init__(self, before):
+        self.before, self.vectors = before, Vectors()
+
+    def add(self, line):
+        """One more vector, by its line."""
+        self.vectors.add(line, self.before)
 
 
 class Keyless:
@@ -176,8 +219,22 @@ class Keyless:
     def text(self, head):
         return "".join(without_keys(line) + "\n" for line in head.facts)
 
+    def add(self, lines):
+        vectors = Vectors(lines)
+        self.vectors.keys.update(vectors.keys)
+        self.finder.add(vectors.keys)
+
+    def further(self):
+        return Beside(self.vectors)
+
     def written(self, lines):
-        return [self.without(line) if line.startswith(MESSAGES) else line for line in lines]
+        return [self.without(line) if line.startswith(MESSAGES) else self.of_further(line) for line in lines]
+
+    @staticmethod
+    def of_further(line):
+        """A line that is no message: one that was given has no keys."""
+        beginning, line = apart(line)
+        return beginning + without_keys(line) if beginning else line
 
     def without(self, line):
         """A message, and before it perhaps how it came, each without an XRES and after a line for each that is left out."""
@@ -193,9 +250,9 @@ class Keyless:
     def filling(self):
         return Filling(self.vectors)
 
-    def taken_up(self, stands, given):
-        facts = given.facts[:len(stands.facts)]
-        return Head(facts) if list(map(without_keys, facts)) == stands.facts else None
+    def taken_up(self, standing, given):
+        facts = given[:len(standing)]
+        return facts if list(map(without_keys, facts)) == standing else None
 
 
 def form_of(keeps_keys, head):
