@@ -65,6 +65,8 @@ CALLS = {
     "start": (MME,),
     "add_live": (MME, *OCTETS, U32, U32, U32),
     "give_live": (MME, *OCTETS, *OCTETS, *OCTETS, *OCTETS, *OCTETS),
+    "save": (MME, ctypes.POINTER(U64), *ROOM, ctypes.POINTER(SIZE)),
+    "restore": (MME, *OCTETS, U64, ctypes.POINTER(U64)),
     "up": (MME, U8),
     "lost": (MME, U8),
     "in": (MME, U8, *OCTETS),

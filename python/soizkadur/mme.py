@@ -6,9 +6,11 @@ from collections.abc import Iterable, Iterator
 from typing import NamedTuple, NoReturn, Self
 
 from . import library
-from .refusals import Refusal, Refused, check, within
+from .refusals import SAVED, Refusal, Refused, check, within
 
 MOST_OCTETS = 16388  # of a message that the MME sends
+PART_OCTETS = 8192  # of a part of a snapshot, as a rule at most
+MOST_WORK = 10_000_000  # keys that are derived for a snapshot; some ten seconds
 EVENTS = (b"up", b"lost", b"in", b"tick", b"data", b"cancel")
 
 
@@ -94,7 +96,8 @@ def _sized(*parts: bytes) -> list[bytes | int]:
 
 class Mme:
     """One MME. It begins with nothing: `from_lines` makes one of provisioning lines, or lines, or `provision`, `add`, `give` and
-    `start` make it one by one. While it runs, `add_live` and `give_live` provision further subscribers and vectors.
+    `start` make it one by one. While it runs, `add_live` and `give_live` provision further subscribers and vectors, `save` makes a
+    snapshot of it, and `restored` an MME of a snapshot.
 
     As a context manager it is closed at its end, which frees its memory; `close` does so earlier. It stays on the thread that first
     used it, which is checked here, and can't be copied or pickled.
@@ -122,6 +125,19 @@ class Mme:
         answer = mme._call("new", given, len(given), fault)
         if answer:
             raise Refused(answer, fault.line)
+        return mme
+
+    @classmethod
+    def restored(cls, octets: bytes, work: int = MOST_WORK) -> Self:
+        """The MME of a snapshot, which runs, and has no replies until the next event. Any octets may be given; `work` is how many
+        next hops may be derived, one for each path switch since a phone's last KeNB.
+
+        Refused: OTHER_VERSION, NO_SNAPSHOT, both with a place, TOO_MUCH_WORK, NO_MEMORY."""
+        mme, place = cls(), ctypes.c_uint64()
+        answer = mme._call("restore", octets, len(octets), within(work, 64), place)
+        if answer:
+            told = answer in (Refusal.OTHER_VERSION, Refusal.NO_SNAPSHOT)
+            raise Refused(answer, place=place.value if told else None)
         return mme
 
     # --- The handle ---
@@ -203,6 +219,27 @@ class Mme:
 
         Refused: BAD_NUMBER, BAD_OCTETS, NO_MME, UNKNOWN_IMSI, PROVISION, NO_MEMORY."""
         self._take("give_live", *_sized(_octets(imsi), rand, autn, xres, kasme))
+
+    # --- Saving ---
+
+    def parts(self) -> Iterator[bytes]:
+        """The parts of a snapshot, which is all of them one after another, if nothing happens to the MME between them. They have
+        the keys of its phones. `restored` makes an MME of it that replies to every event as this one would have.
+
+        Refused: NO_MME, NOT_SAVED, NO_MEMORY."""
+        place, length = ctypes.c_uint64(), ctypes.c_size_t()
+        buffer = ctypes.create_string_buffer(PART_OCTETS)
+        while place.value != SAVED:
+            answer = self._call("save", place, buffer, len(buffer), length)
+            if answer == Refusal.NO_ROOM:
+                buffer = ctypes.create_string_buffer(length.value)
+                continue
+            check(answer)
+            yield memoryview(buffer)[:length.value].tobytes()
+
+    def save(self) -> bytes:
+        """A snapshot: all parts. Refused as `parts`."""
+        return b"".join(self.parts())
 
     # --- Events ---
 

@@ -6,21 +6,27 @@
  *     play --late TRACE      the MME starts below the line `mme`, and all others are provisioned while it runs
  *     play --live TRACE      as --calls, and lines `sub` and `vec` may stand among the events: they are provisioned while it runs,
  *                            and for each a line `told N` has the number that its call answers
+ *     play --restarted N TRACE   as --lines; after each Nth event the MME is saved and ends, and one that is restored goes on
  *
  * TRACE may be "-". Ends with status 1 and `mme: line N: fault M` where a line is wrong, as `mme play` does, and with status 4 for
  * lack of memory. All ways but --lines are for traces whose lines are right.
  */
 #include "calls.h"
+#include "snapshots.h"
 
 enum way { LINES, NEW, CALLS, LATE, LIVE, WAYS };
 
-static int by_lines(soizkadur_mme *mme, const struct text *trace, struct text *answers)
+/* With `every` the MME is restarted after as many events as that. */
+static int by_lines(soizkadur_mme *mme, const struct text *trace, struct text *answers, unsigned every)
 {
     struct span line;
     size_t at = 0;
+    unsigned events = 0;
     for (unsigned count = 1; next_line(trace, &at, &line); count++) {
         uint32_t refusal = played(mme, line);
         put_answers(answers, mme, line, refusal);
+        if (every != 0 && refusal <= SOIZKADUR_UNKNOWN_IMSI && is_event(line) && ++events % every == 0)
+            restart(mme);
         if (refusal >= SOIZKADUR_UNKNOWN_WORD && refusal <= SOIZKADUR_PROVISION) {
             fprintf(stderr, "mme: line %u: fault %u\n", count, (unsigned)refusal - 10);
             return 1;
@@ -75,8 +81,14 @@ static void by_calls(soizkadur_mme *mme, const struct text *trace, struct text *
 int main(int count, char **given)
 {
     static const char *const words[] = {"--lines", "--new", "--calls", "--late", "--live"};
-    must(count == 2 || count == 3, "play [--lines | --new | --calls | --late | --live] TRACE");
+    must(count >= 2 && count <= 4, "play [--lines | --new | --calls | --late | --live | --restarted N] TRACE");
     enum way way = LINES;
+    unsigned every = 0;
+    if (count == 4) {
+        must(strcmp(given[1], "--restarted") == 0, "a way to play");
+        every = (unsigned)strtoul(given[2], NULL, 10);
+        must(every > 0, "after how many events");
+    }
     while (count == 3 && way < WAYS && strcmp(given[1], words[way]) != 0)
         way++;
     must(way < WAYS, "a way to play");
@@ -84,7 +96,7 @@ int main(int count, char **given)
     soizkadur_mme mme = SOIZKADUR_EMPTY;
     int status = 0;
     if (way == LINES)
-        status = by_lines(&mme, &trace, &answers);
+        status = by_lines(&mme, &trace, &answers, every);
     else
         by_calls(&mme, &trace, &answers, way);
     fwrite(answers.at, 1, answers.length, stdout);

@@ -179,6 +179,7 @@ def ticks_have_a_reply_each():
     ("line", ("in 0 0",), Refusal.BAD_OCTETS), ("add", (IMSI, 1, 2, 3), Refusal.ORDER),
     ("add", (IMSI, 2**32, 2, 3), Refusal.BAD_NUMBER),
     ("give", (IMSI, b"", b"", b"", b""), Refusal.BAD_OCTETS),
+    ("restored", (b"",), Refusal.NO_SNAPSHOT),
     ("add_live", ("1", 2, 3, 4), Refusal.BAD_NUMBER), ("add_live", (IMSI, 2**32, 3, 4), Refusal.BAD_NUMBER),
     ("add_live", (IMSI, 2, 3, 4), Refusal.PROVISION), ("add_live", ("001010000000002", 0x0A000001, 3, 4), Refusal.PROVISION),
     ("give_live", ("1", bytes(15), bytes(16), bytes(8), bytes(32)), Refusal.BAD_NUMBER),
@@ -211,6 +212,74 @@ def what_is_given_before_the_mme_runs():
         for _ in range(64):
             mme.give_live(IMSI, *VECTOR)
         must_be(answer(mme.give_live, IMSI, *VECTOR), Refusal.PROVISION)
+
+
+# --- Snapshots ---
+
+
+@test
+def saved_and_restored():
+    """The row of a whole attach, by an Mme that is saved and restored after each event."""
+    mme, told = Mme.from_lines(HEAD), []
+    for word, station, *more in EVENTS:
+        told += mme.up(int(station)) if word == "up" else mme.receive(int(station), octets(more[0]))
+        before, parts, snapshot = mme.replies(), list(mme.parts()), mme.save()
+        must_be((mme.replies(), b"".join(parts), len(parts)), (before, snapshot, 3))
+        mme.close()
+        mme = Mme.restored(snapshot)
+        must_be((mme.replies(), mme.save()), ([], snapshot))
+    must_be(list(map(str, told)), OWED)
+    must_be(mme.states(IMSI), States(EmmState.REGISTERED, EcmState.IDLE, EsmState.ACTIVE))
+    mme.close()
+
+
+@test
+def saved_while_phones_attach():
+    """Phones of a laboratory whose Mme another takes the place of, again and again."""
+    with Laboratory(phones=3) as phones_of:
+        for phone in phones_of.phones:
+            phone.asks_to_attach(phones_of.station, phone.slot + 1)
+            restarted(phones_of)
+            phone.authenticates()
+            restarted(phones_of)
+            phone.completes_security()
+            phone.context_is_set_up()
+            restarted(phones_of)
+            phone.completes_attach()
+            must_be(phones_of.states(phone).emm, EmmState.REGISTERED)
+
+
+def restarted(room):
+    """The Mme of a laboratory is one that is restored from its snapshot."""
+    before = room.mme
+    after = Mme.restored(before.save())
+    before.close()
+    before._handle, after._handle = after._handle, before._handle
+
+
+@test
+def snapshots_that_are_refused():
+    """Each refusal of octets, with its place and in words."""
+    with Mme.from_lines([*HEAD, "sub 001010000000002 0a000002 0a000064 00000002"]) as mme:
+        mme.up(0)
+        parts = list(mme.parts())
+    first, count, one, other = parts
+    version = first[0] + 1
+    cases = [(bytes([version]) + b"".join(parts)[1:], Refusal.OTHER_VERSION, version, "version %d: " % version),
+             (b"", Refusal.NO_SNAPSHOT, 2**64 - 1, ""), (b"".join(parts) + b"\0", Refusal.NO_SNAPSHOT, 2**64 - 1, ""),
+             (first.replace(b"internet", b".nternet") + count + one + other, Refusal.NO_SNAPSHOT, 0, "what stands first: "),
+             (first + count + one + one, Refusal.NO_SNAPSHOT, 2**34 + 1, "slot 1: ")]
+    for snapshot, refusal, place, words in cases:
+        try:
+            Mme.restored(snapshot)
+        except Refused as refused:
+            must_be((refused.refusal, refused.place), (refusal, place))
+            must_be(str(refused), "%s%s (%s)" % (words, refusal.words, refusal.name))
+        else:
+            raise AssertionError("it isn't refused")
+    must_be(answer(Mme.restored, b"", 2**64), Refusal.BAD_NUMBER)
+    with begun() as mme:
+        must_be(answer(mme.save), Refusal.NO_MME)
 
 
 @test
@@ -629,6 +698,16 @@ def how_the_documents_provision():
     names = {}
     exec(textwrap.dedent(blocks[0]), names)
     must_be(len(names["phone"].vectors), 100)
+
+
+@test
+def how_the_documents_save():
+    """Under "Save and restore" in docs/LIBRARY.md, what is to be run runs."""
+    text = (TOP / "docs" / "LIBRARY.md").read_text(encoding="utf-8")
+    part = re.search(r"\n## Save and restore\n(.*?)\n## ", text, re.S)[1]
+    blocks = [block for block in re.findall(r"(?:    .*\n|\n(?=    ))+", part) if "with Laboratory" in block]
+    must_be(len(blocks), 1)
+    exec(textwrap.dedent(blocks[0]), {})
 
 
 @test

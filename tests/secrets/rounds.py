@@ -3,7 +3,7 @@ import pathlib
 import subprocess
 
 from soizkadur.standards import phones
-from tests.secrets.leaving import WAYS, Scene
+from tests.secrets.leaving import WAYS, SavingScene, Scene
 from tests.secrets.played import Phone, Played, random_vector
 from tests.secrets.residue import Secret, of_context, of_vector
 
@@ -15,11 +15,11 @@ UNSPENT = 2  # of the phone that stays
 class Run:
     """The phones of all rounds, and what is looked for."""
 
-    KIND = Phone
+    KIND, SCENE = Phone, Scene
 
     def __init__(self, words, rounds):
         self.trace = Played(words)
-        self.scene = Scene(self.trace)
+        self.scene = self.SCENE(self.trace)
         self.count = 0
         self.staying = self.phone(1 + UNSPENT, STAYING)
         self.rounds = [{way: [self.phone(vectors, way if turn == 0 else LATER) for vectors in given] for way, given in WAYS.items()}
@@ -137,9 +137,10 @@ class LatePhone(Phone):
 
 
 class LateRun(Run):
-    """A run of phones that are provisioned while the MME runs, with vectors that are refused in each round."""
+    """A run of phones that are provisioned while the MME runs, with vectors that are refused in each round. The MME is saved again
+    and again."""
 
-    KIND = LatePhone
+    KIND, SCENE = LatePhone, SavingScene
 
     def __init__(self, words, rounds):
         super().__init__(words, rounds)
@@ -192,6 +193,38 @@ class LateRun(Run):
         for phone in self.full, *self.needy:
             for vector in phone.vectors:
                 yield from (("%s of %s" % (kind, phone.whose), octets) for kind, octets in of_vector(vector))
+
+
+EARLY = {"restored challenged": 1, "restored in security mode": 1, "restored connected": 1, "restored idle": 2}
+
+
+class RestoredRun(LateRun):
+    """The same of an MME that another goes on from, restored while phones are challenged, in security mode and registered."""
+
+    def __init__(self, words, rounds):
+        super().__init__(words, rounds)
+        self.early = [self.phone(vectors, way) for way, vectors in EARLY.items()]
+
+    def looked_for(self):
+        return super().looked_for() + self.early
+
+    def left(self):
+        return super().left() + [secret for phone in self.early for secret in phone.secrets()]
+
+    def begin(self):
+        super().begin()
+        challenged, secured, connected, idle = self.early
+        for phone in challenged, secured:
+            self.scene.challenges(phone)
+        secured.authenticates()
+        for phone in connected, idle:
+            self.scene.attaches(phone)
+        idle.is_released()
+        self.trace.restarts()
+        challenged.gives_any_res()
+        secured.rejects_security()
+        connected.detaches()
+        idle.detaches_from_idle(self.scene.there, self.scene.next())
 
 
 def live_program(library, room):

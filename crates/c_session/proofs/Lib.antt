@@ -3,3 +3,4 @@ pub mod Labels
 pub mod Left
 pub mod Parting
 pub mod Places
+pub mod Resumed

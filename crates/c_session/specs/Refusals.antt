@@ -4,12 +4,16 @@ use Rattle.identity_slots.specs.declared.provision.ProvisionFault.{ProvisionFaul
 use Rattle.identity_slots.specs.declared.provision.ProvisionFault.TheVariants as provision
 use Rattle.mme_core.specs.declared.event.StepFault.{StepFault}
 use Rattle.mme_core.specs.declared.event.StepFault.TheVariants as step
+use Rattle.mme_snapshot.specs.declared.fault.RestoreFault.{RestoreFault}
+use Rattle.mme_snapshot.specs.declared.fault.RestoreFault.TheVariants as restore
+use Rattle.mme_snapshot.specs.declared.fault.SaveFault.{SaveFault}
+use Rattle.mme_snapshot.specs.declared.fault.SaveFault.TheVariants as save
 use Rattle.trace_words.specs.declared.fault.TraceFault.{TraceFault}
 use Rattle.trace_words.specs.declared.fault.TraceFault.TheVariants as line
 use Rattle.trace_progress.specs.declared.fault.PlayFault.{PlayFault}
 use Rattle.trace_progress.specs.declared.fault.PlayFault.TheVariants as play
 use Rattle.c_session.specs.declared.refusal.Refusal.{Refusal}
-use Rattle.c_session.specs.declared.refusal.Refusal.TheVariants.{NotUp, AlreadyUp, ClockSpent, NoMemory, UnknownImsi, UnknownWord, FieldCount, BadNumber, BadOctets, TooLong, Order, Provision, NoMme, InUse, NoOutput, NoRoom, Lost}
+use Rattle.c_session.specs.declared.refusal.Refusal.TheVariants.{NotUp, AlreadyUp, ClockSpent, NoMemory, UnknownImsi, UnknownWord, FieldCount, BadNumber, BadOctets, TooLong, Order, Provision, NoMme, InUse, NoOutput, NoRoom, Lost, NotSaved, OtherVersion, NoSnapshot, TooMuchWork}
 
 -- the number of a refusal
 abbrev pub number_of : Refusal → ℕ
@@ -30,6 +34,10 @@ number_of InUse = 22
 number_of NoOutput = 23
 number_of NoRoom = 24
 number_of Lost = 25
+number_of NotSaved = 26
+number_of OtherVersion = 27
+number_of NoSnapshot = 28
+number_of TooMuchWork = 29
 
 -- the refusal of an event
 abbrev pub of_step : StepFault → Refusal
@@ -45,6 +53,26 @@ of_provision provision.RepeatedImsi = Provision
 of_provision provision.RepeatedAddress = Provision
 of_provision provision.Full = Provision
 of_provision provision.NoMemory = NoMemory
+
+-- the refusal of a part of a snapshot
+abbrev pub of_save : SaveFault → Refusal
+of_save save.First = NotSaved
+of_save (save.Stranger id) = NotSaved
+of_save (save.Subscriber slot) = NotSaved
+of_save save.NoMemory = NoMemory
+
+-- the refusal of octets that were to be a snapshot
+abbrev pub of_restore : RestoreFault → Refusal
+of_restore (restore.Version version) = OtherVersion
+of_restore restore.Octets = NoSnapshot
+of_restore restore.More = NoSnapshot
+of_restore restore.Network = NoSnapshot
+of_restore (restore.Profile slot fault) = NoSnapshot
+of_restore (restore.Subscriber slot) = NoSnapshot
+of_restore (restore.Stranger id) = NoSnapshot
+of_restore (restore.Id slot) = NoSnapshot
+of_restore restore.Work = TooMuchWork
+of_restore restore.NoMemory = NoMemory
 
 -- the refusal of a line or an argument
 abbrev pub of_line : TraceFault → Refusal

@@ -1,3 +1,4 @@
 pub mod Answered
-pub mod Values
 pub mod LooseValues
+pub mod Restored
+pub mod Values

@@ -2,3 +2,4 @@ pub mod Asked
 pub mod Calls
 pub mod Codecs
 pub mod Ownership
+pub mod Snapshots

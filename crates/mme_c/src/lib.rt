@@ -12,6 +12,7 @@ mod loose;
 mod numbers;
 mod provisioning;
 mod replies;
+mod snapshots;
 
 pub use codecs::{
     MessageIds, NasForm, Release, soizkadur_eia2, soizkadur_kenb, soizkadur_nas,
@@ -32,3 +33,4 @@ pub use replies::{
     Output, SubscriberStates, soizkadur_count, soizkadur_out, soizkadur_replies,
     soizkadur_slot_of_imsi, soizkadur_states,
 };
+pub use snapshots::{soizkadur_restore, soizkadur_save};
