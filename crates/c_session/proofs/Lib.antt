@@ -3,4 +3,3 @@ pub mod Labels
 pub mod Left
 pub mod Parting
 pub mod Places
-pub mod Resumed

@@ -5,4 +5,3 @@ pub mod Lines
 pub mod Live
 pub mod Refusals
 pub mod Sessions
-pub mod Snapshots

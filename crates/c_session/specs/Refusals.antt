@@ -4,10 +4,6 @@ use Rattle.identity_slots.specs.declared.provision.ProvisionFault.{ProvisionFaul
 use Rattle.identity_slots.specs.declared.provision.ProvisionFault.TheVariants as provision
 use Rattle.mme_core.specs.declared.event.StepFault.{StepFault}
 use Rattle.mme_core.specs.declared.event.StepFault.TheVariants as step
-use Rattle.mme_snapshot.specs.declared.fault.RestoreFault.{RestoreFault}
-use Rattle.mme_snapshot.specs.declared.fault.RestoreFault.TheVariants as restore
-use Rattle.mme_snapshot.specs.declared.fault.SaveFault.{SaveFault}
-use Rattle.mme_snapshot.specs.declared.fault.SaveFault.TheVariants as save
 use Rattle.trace_words.specs.declared.fault.TraceFault.{TraceFault}
 use Rattle.trace_words.specs.declared.fault.TraceFault.TheVariants as line
 use Rattle.trace_progress.specs.declared.fault.PlayFault.{PlayFault}
@@ -53,26 +49,6 @@ of_provision provision.RepeatedImsi = Provision
 of_provision provision.RepeatedAddress = Provision
 of_provision provision.Full = Provision
 of_provision provision.NoMemory = NoMemory
-
--- the refusal of a part of a snapshot
-abbrev pub of_save : SaveFault → Refusal
-of_save save.First = NotSaved
-of_save (save.Stranger id) = NotSaved
-of_save (save.Subscriber slot) = NotSaved
-of_save save.NoMemory = NoMemory
-
--- the refusal of octets that were to be a snapshot
-abbrev pub of_restore : RestoreFault → Refusal
-of_restore (restore.Version version) = OtherVersion
-of_restore restore.Octets = NoSnapshot
-of_restore restore.More = NoSnapshot
-of_restore restore.Network = NoSnapshot
-of_restore (restore.Profile slot fault) = NoSnapshot
-of_restore (restore.Subscriber slot) = NoSnapshot
-of_restore (restore.Stranger id) = NoSnapshot
-of_restore (restore.Id slot) = NoSnapshot
-of_restore restore.Work = TooMuchWork
-of_restore restore.NoMemory = NoMemory
 
 -- the refusal of a line or an argument
 abbrev pub of_line : TraceFault → Refusal

@@ -9,11 +9,9 @@ mod live;
 mod refusal;
 mod replies;
 mod session;
-mod snapshots;
 mod ticks;
 
 pub use lines::LinesFault;
 pub use refusal::Refusal;
 pub use replies::Replies;
 pub use session::Session;
-pub use snapshots::{SnapshotFault, place_after};

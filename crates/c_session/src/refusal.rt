@@ -1,11 +1,10 @@
 //! Why a call is refused.
 
 ghost use Rattle.std.specs.Prelude.{◌≡◌};
-ghost use Rattle.c_session.specs.Refusals.{number_of, of_line, of_play, of_provision, of_restore, of_save, of_step, told, told_of_start};
+ghost use Rattle.c_session.specs.Refusals.{number_of, of_line, of_play, of_provision, of_step, told, told_of_start};
 
 use identity_slots::ProvisionFault;
 use mme_core::StepFault;
-use mme_snapshot::{RestoreFault, SaveFault};
 use trace_progress::PlayFault;
 use trace_words::TraceFault;
 
@@ -87,34 +86,6 @@ pub(crate) fn of_provision(fault: ProvisionFault) -> Refusal
             Refusal::Provision
         }
         ProvisionFault::NoMemory => Refusal::NoMemory,
-    }
-}
-
-/// The refusal of a part of a snapshot with that fault.
-pub(crate) fn of_save(fault: SaveFault) -> Refusal
-    ensures { result ≡ of_save fault }
-{
-    match fault {
-        SaveFault::First | SaveFault::Stranger(_) | SaveFault::Subscriber(_) => Refusal::NotSaved,
-        SaveFault::NoMemory => Refusal::NoMemory,
-    }
-}
-
-/// The refusal of octets with that fault, which were to be a snapshot.
-pub(crate) fn of_restore(fault: &RestoreFault) -> Refusal
-    ensures { result ≡ of_restore fault.now }
-{
-    match fault {
-        RestoreFault::Version(_) => Refusal::OtherVersion,
-        RestoreFault::Octets
-        | RestoreFault::More
-        | RestoreFault::Network
-        | RestoreFault::Profile(_, _)
-        | RestoreFault::Subscriber(_)
-        | RestoreFault::Stranger(_)
-        | RestoreFault::Id(_) => Refusal::NoSnapshot,
-        RestoreFault::Work => Refusal::TooMuchWork,
-        RestoreFault::NoMemory => Refusal::NoMemory,
     }
 }
 

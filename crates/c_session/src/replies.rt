@@ -34,7 +34,7 @@ impl Model for Replies {
 
 impl Replies {
     /// No reply; takes no memory.
-    pub(crate) fn none(alloc: Global) -> Replies
+    pub fn none(alloc: Global) -> Replies
         ensures { result ≡ [] }
     {
         Replies {

@@ -1,4 +1,6 @@
 pub mod Answered
 pub mod LooseValues
+pub mod PartPlaces
 pub mod Restored
+pub mod Resumed
 pub mod Values

@@ -4,12 +4,12 @@ use Rattle.mme_snapshot.specs.declared.part.Part.{Part}
 use Rattle.mme_snapshot.specs.declared.saving.SavedPart.{SavedPart}
 use Rattle.c_session.specs.declared.refusal.Refusal.{Refusal}
 use Rattle.c_session.specs.declared.session.Session.{Session}
-use Rattle.c_session.specs.declared.snapshots.SnapshotFault.{SnapshotFault}
 use Rattle.c_session.specs.Refusals.{number_of}
-use Rattle.c_session.specs.Snapshots.{IsResumed, Saves, part_wanted, place_after}
+use Rattle.mme_c.specs.declared.snapshots.SnapshotFault.{SnapshotFault}
 use Rattle.mme_c.specs.Asked.{IsCopied}
 use Rattle.mme_c.specs.Calls.{IsKept}
-use Rattle.mme_c.specs.Snapshots.{IsPart, IsRestore, IsSave, place_or}
+use Rattle.mme_c.specs.Places.{place_after}
+use Rattle.mme_c.specs.Snapshots.{IsPart, IsRestore, IsResumed, IsSave, Saves, part_wanted, place_or}
 
 -- a part is copied, or there is no room for it
 pub part_written : (octets : List ℕ) (next : Option Part) (place : ℕ) (buffer : List ℕ) (answer : ℕ) (buffer' : List ℕ)

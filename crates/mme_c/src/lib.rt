@@ -10,6 +10,7 @@ mod handle;
 mod live;
 mod loose;
 mod numbers;
+mod places;
 mod provisioning;
 mod replies;
 mod snapshots;
