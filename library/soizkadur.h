@@ -179,6 +179,30 @@ uint32_t soizkadur_new(soizkadur_mme *mme, const uint8_t *lines, size_t length, 
  * is never lost. NO_MEMORY may come in place of another refusal. */
 uint32_t soizkadur_line(soizkadur_mme *mme, const uint8_t *line, size_t length);
 
+/* How far the lines of a text were played (soizkadur_play). */
+typedef struct soizkadur_played {
+    uint64_t lines;  /* how many were played whole */
+    uint32_t taken;  /* of the next one, at which it stopped: how many of its events were taken and answered; 0 but for `tick N` */
+    uint32_t unsaid; /* 1 if one more of its events was taken, which isn't answered: its messages are the replies; otherwise 0 */
+    size_t length;   /* the octets of all answers */
+} soizkadur_played;
+
+/* Plays the lines of a text, each of which ends with LF, and writes their answers to the start of the buffer, the rest of which
+ * stays: what `mme play` prints of these lines, from the MME as it is (README.md, "A trace"). What comes after the last LF is no
+ * line and isn't taken: it may be the front of one, which is handed in once all of it has come.
+ * The lines are those of soizkadur_line, and the handle may be empty; it isn't after the call, unless there is no memory for it
+ * (NO_MEMORY), and then nothing is written. An event that is refused is answered by `refused N`, and `show IMSI` by the states.
+ * Refused, if a line is: `lines` lines before it are played, and the answers to be sent are written; it is
+ * - UNKNOWN_WORD to PROVISION, and the line is wrong. Nothing of it is done, but that `show IMSI` may have started the MME;
+ * - NO_MEMORY; or NO_ROOM, if the answers of an event, or the states, are longer than the rest of the buffer. Of a line `tick N`,
+ *   `taken` seconds have passed and are answered. The next event, of any other line its only one, wasn't taken if `unsaid` is 0,
+ *   but the MME may have been started for it. If `unsaid` is 1, it was, and none of its messages is answered: soizkadur_count of
+ *   reply 0 and soizkadur_out have them;
+ * - LOST, as in soizkadur_line.
+ * A message is answered in at most 32856 octets, a refused event and `show IMSI` in at most 80. */
+uint32_t soizkadur_play(soizkadur_mme *mme, const uint8_t *lines, size_t length, soizkadur_played *played, uint8_t *buffer,
+                        size_t room);
+
 /* ---- an MME, made call by call */
 
 /* Begins the provisioning, as the line `mme`. `plmn` is the network in 3 octets, packed as in S1AP (TS 36.413 clause 9.2.3.8: 001

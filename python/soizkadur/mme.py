@@ -11,6 +11,7 @@ from .refusals import SAVED, Refusal, Refused, check, within
 MOST_OCTETS = 16388  # of a message that the MME sends
 PART_OCTETS = 8192  # of a part of a snapshot, as a rule at most
 MOST_WORK = 10_000_000  # keys that are derived for a snapshot; some ten seconds
+TEXT_OCTETS = 1 << 18  # of answers that one call of the library writes
 EVENTS = (b"up", b"lost", b"in", b"tick", b"data", b"cancel")
 
 
@@ -110,6 +111,7 @@ class Mme:
         self._count, self._output = ctypes.c_size_t(), library.Output()
         self._buffer = ctypes.create_string_buffer(MOST_OCTETS)
         self._written = memoryview(self._buffer)
+        self._played, self._text = library.Played(), None
         self._thread: int | None = None
 
     @classmethod
@@ -315,6 +317,43 @@ class Mme:
         """Plays lines of a trace one after another, and yields what `mme play` prints for them."""
         for line in lines:
             yield from self.answers(line)
+
+    def play_text(self, text: str | bytes) -> bytes:
+        """Plays the lines of a text, each of which ends with a LF, in one call of the library, and answers what `mme play` prints
+        for them. What comes after the last LF isn't played.
+
+        Refused: UNKNOWN_WORD to PROVISION, NO_MEMORY, LOST, with the line's number; the lines before it are played, and `answers`
+        of what is raised has what was printed for them."""
+        rest, told, before = _octets(text), [], 0
+        while True:
+            answer, written = self._play(rest)
+            told.append(written)
+            if not answer:
+                return b"".join(told)
+            before += self._played.lines
+            if self._played.unsaid:
+                told += [b"%s\n" % str(out).encode() for out in self._messages(0)]
+            if answer != Refusal.NO_ROOM or not (self._played.lines or self._played.taken or self._played.unsaid):
+                raise Refused(answer, before + 1, b"".join(told))
+            rest = rest.split(b"\n", self._played.lines)[-1]
+            rest, whole = self._rest_of(rest)
+            before += whole
+
+    def _play(self, text: bytes) -> tuple[int, bytes]:
+        """Plays lines: what the call answers, and what it writes."""
+        if self._text is None:
+            self._text = memoryview(ctypes.create_string_buffer(TEXT_OCTETS))
+        answer = self._call("play", text, len(text), self._played, self._text.obj, TEXT_OCTETS)
+        return answer, self._text[:self._played.length].tobytes()
+
+    def _rest_of(self, text: bytes) -> tuple[bytes, int]:
+        """What is still to be played of lines of which the first was stopped at, and whether all of that was done."""
+        line, _, others = text.partition(b"\n")
+        done = self._played.taken + self._played.unsaid
+        ticks = int(line[5:]) if line.startswith(b"tick ") else 1
+        if not done:
+            return text, 0
+        return (b"tick %d\n%s" % (ticks - done, others), 0) if done < ticks else (others, 1)
 
     # --- What it sends, and its states ---
 

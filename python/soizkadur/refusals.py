@@ -98,14 +98,15 @@ def _place(refusal: Refusal, place: int) -> str:
 
 
 class Refused(Exception):
-    """A call was refused; what it was made on is as it was."""
+    """A call was refused; what it was made on is as it was, but for the lines that `Mme.play_text` has played before."""
 
     refusal: Refusal
-    line: int | None  # of provisioning lines, the one that was refused, from 1
+    line: int | None  # of lines, the one that was refused, from 1
     place: int | None  # of a snapshot, that of the part with the first fault; of another version, the version
+    answers: bytes  # to the lines before, of `Mme.play_text`
 
-    def __init__(self, refusal: int, line: int | None = None, place: int | None = None) -> None:
-        self.refusal, self.line, self.place = Refusal(refusal), line, place
+    def __init__(self, refusal: int, line: int | None = None, place: int | None = None, answers: bytes = b"") -> None:
+        self.refusal, self.line, self.place, self.answers = Refusal(refusal), line, place, answers
         where = "" if line is None else "line %d: " % line
         where += "" if place is None else _place(self.refusal, place)
         super().__init__("%s%s (%s)" % (where, self.refusal.words, self.refusal.name))

@@ -3,13 +3,13 @@
  *
  *     failing TRACE ANSWERS ..    with malloc and realloc wrapped by the linker
  *
- * Each trace is played line by line (soizkadur_line), by the calls that its lines stand for, and by these with what its lines `sub`
- * and `vec` provision coming while the MME runs; its head is taken by soizkadur_new, and each message that is sent in it is read by
- * soizkadur_s1ap; and in its midst the MME is saved and restored. ANSWERS are those that the trace must have. Where all allocations
- * are refused, a call that provisions while the MME runs and has another cause to be refused is refused for that one. Prints for
- * each trace how many allocations were refused.
+ * Each trace is played line by line (soizkadur_line), some lines at a time (soizkadur_play), by the calls that its lines stand for,
+ * and by these with what its lines `sub` and `vec` provision coming while the MME runs; its head is taken by soizkadur_new, and each
+ * message that is sent in it is read by soizkadur_s1ap; and in its midst the MME is saved and restored. ANSWERS are those that the
+ * trace must have. Where all allocations are refused, a call that provisions while the MME runs and has another cause to be refused
+ * is refused for that one. Prints for each trace how many allocations were refused.
  */
-#include "calls.h"
+#include "texts.h"
 
 #define MOST_IMSIS 4
 #define MOST_SAVED (1 << 20) /* octets of a snapshot */
@@ -148,6 +148,34 @@ static void play(const struct text *trace, struct text *answers, struct counts *
             put_taken(answers, &mme, counts);
         else
             put_answers(answers, &mme, line, answer);
+    }
+    soizkadur_free(&mme);
+    refused = refused == 0 ? asked : refused;
+}
+
+/* Plays a trace some lines at a time with one allocation refused; what isn't done then is given again. */
+static void play_texts(const struct text *trace, struct text *answers, struct counts *counts)
+{
+    soizkadur_mme mme = SOIZKADUR_EMPTY;
+    asked = answers->length = 0;
+    srand(1);
+    for (size_t at = 0; at < trace->length;) {
+        struct span turn = turn_at(trace, at, 1 + (unsigned)rand() % 3);
+        soizkadur_played played = {0, 0, 0, 0};
+        uint32_t answer;
+        CALLED(answer, soizkadur_play(&mme, octets(turn), turn.length, &played, buffer_of_answers, sizeof buffer_of_answers));
+        put(answers, (const char *)buffer_of_answers, played.length);
+        wipe(buffer_of_answers, played.length);
+        at += octets_of(turn, played.lines);
+        if (answer == SOIZKADUR_LOST) {
+            counts->lost++;
+            must(soizkadur_start(&mme) == SOIZKADUR_ORDER, "nothing is provisioned any more");
+            at = answers->length = 0;
+        } else if (answer != SOIZKADUR_OK) {
+            must(answer == SOIZKADUR_NO_MEMORY, "no line is wrong, and there is room");
+            counts->no_memory++;
+            play_rest(&mme, trace, &at, &played, answers);
+        }
     }
     soizkadur_free(&mme);
     refused = refused == 0 ? asked : refused;
@@ -415,7 +443,7 @@ static void count_in(struct counts *all, const struct counts *of_run, const char
 /* The ways to play a trace, each of which gives its answers; how many allocations were refused. */
 static unsigned long played_each_way(const struct text *trace, const struct text *wanted, struct counts *counts)
 {
-    void (*const ways[])(const struct text *, struct text *, struct counts *) = {play, call, call_live};
+    void (*const ways[])(const struct text *, struct text *, struct counts *) = {play, play_texts, call, call_live};
     unsigned long total = 0;
     for (size_t place = 0; place < sizeof ways / sizeof ways[0]; place++) {
         struct counts of_way = {0, 0, 0};

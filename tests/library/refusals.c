@@ -182,6 +182,62 @@ static void of_a_whole_trace(void)
     soizkadur_free(mme);
 }
 
+/* Lines that stop, or don't: how far, and what is answered. */
+static void stops(soizkadur_mme *mme, const char *text, size_t room, uint32_t wanted, soizkadur_played owed, const char *answers,
+                  int place)
+{
+    static uint8_t buffer[MOST_LINE];
+    soizkadur_played played = {77, 77, 77, 77};
+    memset(buffer, 77, sizeof buffer);
+    uint32_t got = soizkadur_play(mme, TEXT(text), &played, buffer, room);
+    tried++;
+    int is_so = got == wanted && played.lines == owed.lines && played.taken == owed.taken && played.unsaid == owed.unsaid
+                && played.length == owed.length && memcmp(buffer, answers, owed.length) == 0;
+    for (size_t at = owed.length; at < sizeof buffer; at++)
+        is_so = is_so && buffer[at] == 77;
+    if (is_so)
+        return;
+    fprintf(stderr, "refusals.c:%d: %.60s\n  is answered by %u after %u lines, and not by %u after %u, and by\n%.*s\n", place, text,
+            (unsigned)got, (unsigned)played.lines, (unsigned)wanted, (unsigned)owed.lines, (int)(played.length % 1000), (char *)buffer);
+    exit(1);
+}
+
+#define STOPS(wanted, text, room, lines, unsaid, answers) \
+    stops(mme, text, room, SOIZKADUR_##wanted, (soizkadur_played){lines, 0, unsaid, strlen(answers)}, answers, __LINE__)
+
+static void of_texts(void)
+{
+    static char lines[MOST_LINE + 40];
+    soizkadur_mme empty = SOIZKADUR_EMPTY, *mme = &empty;
+    soizkadur_played played = {77, 77, 77, 77};
+    size_t count = 0;
+    STOPS(UNKNOWN_WORD, "station 0\n", 100, 0, 0, "");
+    REFUSED(ORDER, soizkadur_start(mme));
+    STOPS(ORDER, "# a comment\n\nup 0\n", 100, 2, 0, "");
+    STOPS(OK, "tick 1", 100, 0, 0, "");
+    STOPS(FIELD_COUNT, "mme 001 01 8001 01 internet 1000000000 1000000000\nsub 1\ntick 1\n", 0, 1, 0, "");
+    STOPS(PROVISION, "sub 001010000000001 0a000001 0a000064 00000001\nshow 001010000000009\n", 100, 1, 0, "");
+    STOPS(BAD_NUMBER, "up 128\n", 100, 0, 0, "");
+    STOPS(BAD_OCTETS, "\n\nin 0 0\n", 100, 2, 0, "");
+    STOPS(OK, "lost 1\nup 0\nup 0\ndata 001010000000009\nshow 001010000000001\ntick 3\nlost", 200, 6, 0,
+          "refused 1\nrefused 2\nrefused 5\nstate 001010000000001 DEREGISTERED IDLE INACTIVE\n");
+    STOPS(NO_ROOM, "tick 1\nlost 1\n", 9, 1, 0, "");
+    STOPS(OK, "lost 1\n", 10, 1, 0, "refused 1\n");
+    STOPS(NO_ROOM, "lost 1\nlost 1\n", 19, 1, 0, "refused 1\n");
+    strcpy(lines, SETUP);
+    strcat(lines, "\nlost 1\n");
+    STOPS(NO_ROOM, lines, 40, 0, 1, "");
+    must(soizkadur_count(mme, 0, &count) == SOIZKADUR_OK && count == 1, "what isn't answered is the reply");
+    strcpy(lines, "lost 1\n");
+    strcat(lines, longest);
+    strcat(lines, "\n");
+    STOPS(TOO_LONG, lines, 100, 1, 0, "refused 1\n");
+    TAKEN(soizkadur_play(mme, NOTHING, &played, NOTHING));
+    AS_IT_WAS(played.lines == 0 && played.taken == 0 && played.unsaid == 0 && played.length == 0);
+    REFUSED(ORDER, line(mme, "sub 001010000000002 0a000002 0a000064 00000001"));
+    soizkadur_free(mme);
+}
+
 #define OCTETS_OF(count) OCTETS, count
 
 static uint32_t new_of(soizkadur_mme *mme, size_t plmn, const char *apn, uint64_t down, uint64_t up)
@@ -710,6 +766,7 @@ int main(int count, char **given)
     of_an_empty_handle();
     of_lines();
     of_a_whole_trace();
+    of_texts();
     of_provisioning();
     of_an_mme_that_does_not_run();
     of_an_mme_that_runs(given[1], given[2]);

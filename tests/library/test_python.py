@@ -105,6 +105,29 @@ def row(path):
     must_be("".join(line + "\n" for line in told), path.with_suffix(".answers").read_text())
 
 
+@test_of_each([("%s in turns of %d lines" % (path.stem, most), (path, most)) for path in sorted(ROWS.glob("*.trace"))
+               for most in (1, 40)])
+def row_in_turns(told):
+    """A row's answers, and the fault of a line, by `play_text` of so many lines at most."""
+    path, most = told
+    lines, answers, fault, at = path.read_bytes().splitlines(keepends=True), b"", "", 0
+    turns = random.Random(path.stem)
+    if lines and not lines[-1].endswith(b"\n"):
+        lines[-1] += b"\n"
+    with Mme() as mme:
+        while at < len(lines) and not fault:
+            turn = lines[at:at + turns.randint(1, most)]
+            try:
+                answers += mme.play_text(b"".join(turn) + b"tick")
+            except Refused as refused:
+                answers += refused.answers
+                fault = "mme: line %d: fault %d\n" % (at + refused.line, refused.refusal - 10)
+            at += len(turn)
+    errors = path.with_suffix(".errors")
+    must_be(fault, errors.read_text() if errors.exists() else "")
+    must_be(answers.decode(), path.with_suffix(".answers").read_text())
+
+
 HEAD = [line for line in (ROWS / "attach_whole.trace").read_text().splitlines() if line.split(" ")[0] in ("mme", "sub", "vec")]
 VECTOR = [octets(word) for word in HEAD[2].split(" ")[2:]]
 EVENTS = [line.split(" ") for line in (ROWS / "attach_whole.trace").read_text().splitlines() if line.startswith(("up ", "in "))]
@@ -164,6 +187,25 @@ def ticks_have_a_reply_each():
         must_be([[str(out) for out in reply] for reply in replies], [[]] * 5 + [OWED[1:2]])
         must_be(mme.replies(), replies)
         must_be([str(out) for out in mme.line("tick 6")], OWED[1:2])
+
+
+@test
+def answers_that_have_no_room():
+    """Where one call of the library has room for few answers, the text's answers are the same."""
+    whole, mme_module = (ROWS / "attach_given_up.trace").read_bytes(), sys.modules["soizkadur.mme"]
+    ticks = whole.count(b"\ntick ")
+    assert ticks > 1, "the row has ticks"
+    lines = [line for line in whole.splitlines(keepends=True) if not line.startswith(b"show ")]
+    for text in (whole, b"".join(lines) + b"tick 70\n"):
+        with Mme() as mme:
+            wanted = mme.play_text(text)
+        for room in (100, 300, 1000):
+            usual, mme_module.TEXT_OCTETS = mme_module.TEXT_OCTETS, room
+            try:
+                with Mme() as mme:
+                    must_be(mme.play_text(text), wanted)
+            finally:
+                mme_module.TEXT_OCTETS = usual
 
 
 # --- Refusals ---

@@ -4,3 +4,4 @@ pub mod Codecs
 pub mod Ownership
 pub mod Places
 pub mod Snapshots
+pub mod Texts

@@ -14,6 +14,7 @@ mod places;
 mod provisioning;
 mod replies;
 mod snapshots;
+mod texts;
 
 pub use codecs::{
     MessageIds, NasForm, Release, soizkadur_eia2, soizkadur_kenb, soizkadur_nas,
@@ -35,3 +36,4 @@ pub use replies::{
     soizkadur_slot_of_imsi, soizkadur_states,
 };
 pub use snapshots::{soizkadur_restore, soizkadur_save};
+pub use texts::{TextPlayed, soizkadur_play};
