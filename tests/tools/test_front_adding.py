@@ -142,10 +142,15 @@ class Live:
     def start(self):
         self.taken.append("start")
 
-    def answers(self, line):
-        if line == b"data " + NOBODY_AT_ALL.encode():
-            return ["refused 5"]
-        return [line.decode()] if line.startswith(b"out ") else []
+    def play_text(self, text):
+        assert b"\n" + runs.FURTHER.encode() not in b"\n" + text, "such a line has a call of its own"
+        return b"".join(self.answer(line) for line in text.splitlines(keepends=True))
+
+    @staticmethod
+    def answer(line):
+        if line == b"data %s\n" % NOBODY_AT_ALL.encode():
+            return b"refused 5\n"
+        return line if line.startswith(b"out ") else b""
 
     def add_live(self, imsi, *numbers):
         if imsi.endswith("9"):

@@ -336,11 +336,18 @@ class Echo:
     """An MME of the package: answers each line by itself, slowly at one that asks for it, and refuses what is a number."""
     is_open = True
 
-    def answers(self, line):
-        if line.isdigit():
-            raise soizkadur.Refused(int(line))
-        time.sleep(limits.LIBRARY_SECONDS if line == b"slow" else 0)
-        return [line.decode()] if line != b"quiet" else []
+    def __init__(self):
+        self.texts = []
+
+    def play_text(self, text):
+        self.texts.append(text)
+        told = b""
+        for number, line in enumerate(text.splitlines(), 1):
+            if line.isdigit():
+                raise soizkadur.Refused(int(line), number, answers=told)
+            time.sleep(limits.LIBRARY_SECONDS if line.startswith(b"slow") else 0)
+            told += line + b"\n" if line != b"quiet" else b""
+        return told
 
     def close(self):
         self.is_open = False
@@ -378,11 +385,28 @@ class InProcess(unittest.TestCase):
 
     def test_turns(self):
         """It plays for a while in each turn, so that others have theirs."""
-        self.mme.give(b"slow\n" * 3 + b"a\n")
+        slow = b"slow".ljust(limits.LIBRARY_OCTETS - 1, b"w") + b"\n"
+        self.mme.give(slow * 3 + b"a\n")
         self.turn(1)
         self.assertEqual(len(self.heard), 1)
         self.turn()
-        self.assertEqual(self.heard, [b"slow\n"] * 3 + [b"a\n"])
+        self.assertEqual(self.heard, [slow] * 3 + [b"a\n"])
+
+    def test_calls(self):
+        """A call of the library plays as many whole lines as it may, or one that is longer; what was given apart is played apart."""
+        most = limits.LIBRARY_OCTETS
+        few, line = b"a\n" * 3, b"b" * (most // 2 - 1) + b"\n"
+        for given, texts in (([few, few], [few, few]), ([line * 5], [line * 2, line * 2, line]),
+                             ([line + few + line], [line + few, line]), ([few + line * 4], [few + line, line * 2, line]),
+                             ([few + b"c" * most + b"\n" + few], [few, b"c" * most + b"\n", few]), ([b""], [])):
+            with self.subTest(given=[len(text) for text in given]):
+                self.setUp()
+                for text in given:
+                    self.mme.give(text)
+                self.assertEqual(self.mme.size, len(b"".join(given)))
+                self.turn()
+                self.assertEqual((self.mme.mme.texts, b"".join(self.heard)), (texts, b"".join(given)))
+                self.assertEqual((self.mme.size, self.mme.played), (0, b"".join(given).count(b"\n")))
 
     def test_taken(self):
         """Whoever waits for it to take what it was given is told, though nothing of that is answered."""
@@ -400,7 +424,8 @@ class InProcess(unittest.TestCase):
                                       (soizkadur.Refusal.LOST, "out of memory", 4)):
             with self.subTest(refusal=refusal):
                 self.setUp()
-                self.mme.give(b"a\nb\n%d\nc\n" % refusal)
+                self.mme.give(b"a\n")
+                self.mme.give(b"b\n%d\nc\n" % refusal)
                 self.turn()
                 self.assertEqual((b"".join(self.heard), self.said, self.ends), (b"a\nb\n", [("mme", "mme: " + told)], [status]))
 

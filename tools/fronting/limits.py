@@ -23,6 +23,7 @@ TURN_OCTETS = 1 << 18  # octets of them, after which no other station has its tu
 IN_FLIGHT = 2  # turns whose answers are still due, beyond which no station has its turn
 
 LIBRARY_SECONDS = 0.01  # that an MME in this process plays lines in a turn
+LIBRARY_OCTETS = 1 << 12  # of lines that one call of the library plays, but for a longer line
 FIRST_SECONDS = 30  # for the MME to take the head and to answer
 ANSWER_SECONDS = 10  # without a word of the MME while an answer is due
 LAST_SECONDS = 5  # for it to end

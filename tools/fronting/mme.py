@@ -198,7 +198,8 @@ class LibraryMme(Mme):
     def __init__(self, package, loop, hear, say):
         super().__init__(loop, hear, say)
         self.library, self.mme = package, package.Mme()
-        self.played, self.timer = 0, None  # how many lines were played, and what plays the next
+        self.place, self.played = 0, 0  # how far the first of what waits was played, and how many lines were
+        self.timer = None  # what plays the next
         self.has_started = False  # whether it surely runs
 
     # To the library.
@@ -206,8 +207,9 @@ class LibraryMme(Mme):
     def give(self, octets):
         """Gives it whole lines."""
         if self.status is None and not self.is_last:
-            self.waiting.extend(octets.split(b"\n")[:-1])
-            self.size += len(octets)
+            if octets:
+                self.waiting.append(octets)
+                self.size += len(octets)
             self.go_on()
 
     def finish(self):
@@ -221,18 +223,19 @@ class LibraryMme(Mme):
             self.timer = self.loop.after(0, self.play)
 
     def play(self):
-        """Plays lines for a while, and hands on their answers."""
+        """Plays lines for a while, some in each call of the library, and hands on their answers."""
         self.timer, answers, fault, end = None, [], None, time.monotonic() + limits.LIBRARY_SECONDS
         while self.waiting and fault is None and time.monotonic() < end:
-            line = self.waiting.popleft()
-            self.played += 1
-            self.size -= len(line) + 1
+            lines = self.next_lines()
             try:
-                answers += self.take(line) if line.startswith(FURTHER) else self.mme.answers(line)
+                answers.append(self.take(lines[:-1]) if lines.startswith(FURTHER) else self.mme.play_text(lines))
+                self.played += lines.count(b"\n")
             except self.library.Refused as refused:
+                answers.append(refused.answers)
+                self.played += refused.line or 1
                 fault = refused.refusal
-        if answers:
-            self.hear("".join([answer + "\n" for answer in answers]).encode())
+        if any(answers):
+            self.hear(b"".join(answers))
         if self.status is not None:
             return
         if fault is not None:
@@ -243,6 +246,21 @@ class LibraryMme(Mme):
             self.has_ended(0)
         self.taken()
 
+    def next_lines(self):
+        """Takes what is played next: a line for a further subscriber or vector, or other lines, for one call of the library."""
+        text, at = self.waiting[0], self.place
+        end = text.rfind(b"\n", at, at + limits.LIBRARY_OCTETS) + 1
+        if not end or text.startswith(FURTHER, at):
+            end = text.index(b"\n", at) + 1
+        else:
+            end = text.find(b"\n" + FURTHER, at, end) + 1 or end
+        self.place = end
+        if end == len(text):
+            self.waiting.popleft()
+            self.place = 0
+        self.size -= end - at
+        return text[at:end]
+
     def take(self, line):
         """Takes a further subscriber or vector; what is answered. Lack of memory is raised: played again, the line is taken."""
         text = line[len(FURTHER):].decode("latin-1")
@@ -252,8 +270,8 @@ class LibraryMme(Mme):
         except self.library.Refused as refused:
             if refused.refusal in (self.library.Refusal.NO_MEMORY, self.library.Refusal.LOST):
                 raise
-            return ["%s%d %s" % (NOT_TAKEN.decode(), refused.refusal, text)]
-        return [TAKEN.decode() + text]
+            return b"%s%d %s\n" % (NOT_TAKEN, refused.refusal, line[len(FURTHER):])
+        return b"%s%s\n" % (TAKEN, line[len(FURTHER):])
 
     def add(self, word, imsi, *fields):
         """Takes it by its words."""
