@@ -3,6 +3,7 @@ the MME's answers to them, and a log that has all of them in its head. The MME i
 import collections
 import contextlib
 import functools
+import gc
 import io
 import pathlib
 import socket
@@ -11,6 +12,7 @@ import tempfile
 import types
 import unittest
 import unittest.mock
+import weakref
 
 import soizkadur
 from reference import lte as LTE, phones as PHONES
@@ -64,15 +66,16 @@ class Looked(unittest.TestCase):
 
     def test_refused(self):
         """Each fault has the number of its line, and words."""
-        short = "line 1: RAND and AUTN have 16 octets in hex, XRES 4 to 16, and KASME 32"
+        short = "line 1: an IMSI has 14 or 15 digits, RAND and AUTN have 16 octets in hex, XRES 4 to 16, and KASME 32$"
+        digits = "line 1: an IMSI has 14 or 15 digits, and an address, an S-GW's address and its tunnel end have 8 in hex each$"
         for lines, why in (
                 (["up 0"], "line 1: no line begins with 'up'"), ([self.head.lines[0]], "line 1: no line begins with 'mme'"),
                 (["ab" * 32], "line 1: no line begins so$"), (["vec " + "0 " * 20000], "line 1: longer than 40000 octets"),
-                (["sub"], "line 1: sub has 4 fields, not 0"), (["sub x 0a000002 0a000064 00000002"], "line 1: 'x' isn't an IMSI"),
+                (["sub"], "line 1: sub has 4 fields, not 0"), (["sub x 0a000002 0a000064 00000002"], digits),
                 (["", "# x", runs.FURTHER + SUB], "line 3: it stands so in a log alone"),
-                ([SUB[:-2]], "line 1: an address, an S-GW's address and its tunnel end have 8 digits in hex each"),
-                ([vector(IMSI, 9)[:-2]], short), (["vec %s aa bb cc dd" % IMSI], short),
-                (["vec %s %032x %032x 000001 %064x" % (IMSI, 8, 8, 8)], short), ([vector(IMSI, 9)[:-1]], short),
+                ([SUB[:-2]], digits), ([vector(IMSI, 9)[:-2]], short), (["vec %s aa bb cc dd" % IMSI], short),
+                ([vector("00" * 16, 9)], short), ([vector(IMSI, 9)[:-1]], short),
+                (["vec %s %032x %032x 000001 %064x" % (IMSI, 8, 8, 8)], short),
                 ([keys.without_keys(vector(IMSI, 9))], "line 1: it has no keys"),
                 ([vector(IMSI, 1)], "line 1: it stands already"), ([vector(IMSI, 9)] * 2, "line 2: it stands already"),
                 *((lines, "line 2: %s has a vector with this RAND already" % IMSI) for lines in (
@@ -130,6 +133,23 @@ class Looked(unittest.TestCase):
                 found = [line for part in adding.lines_in(text) for line in part]
             self.assertEqual("\n".join(found), text.decode())
         self.assertEqual(list(adding.lines_in(b"")), [])
+
+    def test_long(self):
+        """Of a line that is too long no more is read than shows that; the longest that isn't is read whole."""
+        longest = "x" * runs.LONGEST_LINE
+        for text, lines in ((longest, [longest]), (longest + "\ny\n", [longest, "y"]), ("y\n" + longest, ["y", longest])):
+            self.assertEqual([line for part in adding.lines_in(text.encode()) for line in part], lines)
+        self.assertEqual(next(adding.lines_in(longest.encode() * 30)), [longest + "x"])
+
+    def test_little_work(self):
+        """What is seen is nothing that Python goes through when it looks for what isn't used any more."""
+        made = self.further()
+        for line in (SUB, vector(OTHER, 1), vector(IMSI, 2)):
+            made.take(line)
+        self.assertEqual((len(made.seen), gc.is_tracked(made.seen)), (3, False))
+
+    def test_parts_of(self):
+        """Lines in parts."""
         self.assertEqual([line for part in adding.parts_of(list(range(1000))) for line in part], list(range(1000)))
 
 
@@ -315,6 +335,17 @@ class Whole(unittest.TestCase):
         places = [place for place, size in enumerate(sizes) if size]
         self.assertTrue(any("tick 1" in batch for batch in self.batches[places[0]:places[-1]]))
 
+    def test_forgotten(self):
+        """Once it is answered nothing of it is kept, and that needn't be found out: to forget much of it at once would take long."""
+        gc.disable()
+        self.addCleanup(gc.enable)
+        self.give("%s\n%s\n" % (SUB, vector(OTHER, 1)))
+        self.assertEqual((self.front.giving.further.seen, self.front.giving.further.form), ({}, None))
+        giving = weakref.ref(self.front.giving)
+        self.turn()
+        self.assertEqual(self.replies, ["given 1 subscriber, 1 vector"])
+        self.assertIsNone(giving())
+
     def in_log(self, full_disk="end", syncer=None):
         """A log which has what the MME is given; it isn't synced unless by this one."""
         made = journal.Journal.begun(self.enterContext(tempfile.TemporaryDirectory()) + "/log", self.head, 1 << 20, 5)
@@ -405,6 +436,15 @@ class Whole(unittest.TestCase):
                 self.assertEqual(self.replies, ["refused: the front ends: at least the first %d of 1000 lines were given" % kept])
                 self.turn()
                 self.assertEqual(sum(map(len, self.batches)), kept + 200)
+
+    def test_an_end_before(self):
+        """Where it ends before all lines were looked at, nothing was given."""
+        with unittest.mock.patch.object(limits, "ADDING_SECONDS", -1):
+            self.give("%s\n%s\n" % (SUB, vector(OTHER, 1)))
+            self.assertEqual(self.front.giving.further.lines, [SUB, vector(OTHER, 1)])
+            self.front.giving.refuse("the front ends")
+        self.turn()
+        self.assertEqual((self.replies, self.batches), (["refused: the front ends: nothing was given"], []))
 
 
 class Keyless(unittest.TestCase):

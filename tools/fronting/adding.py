@@ -25,8 +25,8 @@ from tools.fronting.provisioning import OF_A_LOG, SAME_RAND, fields_of_further
 FORM = re.compile("sub ([0-9]{14,15}) (H{8})(?: H{8}){2}|vec ([0-9]{14,15}) (H{32}) H{32} (?:HH){4,16} H{64}".replace(
     "H", "[0-9a-fA-F]"))
 # What is said of another, and nothing of what it has, since that may be keys, also where it begins with them.
-LENGTHS = {"sub": "an address, an S-GW's address and its tunnel end have 8 digits in hex each",
-           "vec": "RAND and AUTN have 16 octets in hex, XRES 4 to 16, and KASME 32"}
+LENGTHS = {"sub": "an IMSI has 14 or 15 digits, and an address, an S-GW's address and its tunnel end have 8 in hex each",
+           "vec": "an IMSI has 14 or 15 digits, RAND and AUTN have 16 octets in hex, XRES 4 to 16, and KASME 32"}
 TOO_MANY = "%s would have %d vectors that aren't spent or answered yet, and has %d at most"
 
 
@@ -37,22 +37,24 @@ def parts_of(lines):
 
 
 def lines_in(text):
-    """The lines of a text, in parts."""
+    """The lines of a text, in parts; of a line that is too long as much as shows that."""
     at = 0
     while at < len(text):
-        end = (text.rfind(b"\n", at, at + limits.ADDED_OCTETS) + 1 or text.find(b"\n", at) + 1) or len(text)
+        longest = at + runs.LONGEST_LINE + 1
+        end = (text.rfind(b"\n", at, at + limits.ADDED_OCTETS) + 1 or text.find(b"\n", at, longest) + 1) or longest
         yield text[at:end].decode("latin-1").removesuffix("\n").split("\n")
         at = end
 
 
 class Further:
     """Lines that are to be given, each looked at as one that comes after those before it: `lines` has those that aren't comments,
-    `imsis` the IMSIs of new subscribers."""
+    `imsis` the IMSIs of new subscribers, and `seen` each line by its IMSI, a vector's by its IMSI and RAND. (That is a dict of
+    strings alone, through which Python doesn't go when it looks for what isn't used any more.)"""
 
     def __init__(self, head, stock, used, form):
         self.head, self.stock, self.used, self.form = head, stock, used, form.further()
         self.number, self.lines = 0, []
-        self.imsis, self.places, self.known, self.rands, self.vectors = set(), set(), set(), set(), collections.Counter()
+        self.imsis, self.places, self.seen, self.vectors = set(), set(), {}, collections.Counter()
 
     def take(self, line):
         """Takes one more line; a fault where it can't be given."""
@@ -75,14 +77,15 @@ class Further:
                 raise runs.Fault("no line begins so")
             word, _ = fields_of_further(line)
             raise runs.Fault(LENGTHS[word])
-        if line in self.head.known or line in self.known:
-            raise runs.Fault("it stands already")
         imsi, address, of_vector, rand = found.groups()
+        name = imsi or of_vector + rand.lower()
+        if line in self.head.known or self.seen.get(name) == line:
+            raise runs.Fault("it stands already")
         if imsi:
             self.look_at_subscriber(imsi, address.lower())
         else:
             self.look_at_vector(of_vector, rand.lower(), line)
-        self.known.add(line)
+        self.seen[name] = line
 
     def look_at_subscriber(self, imsi, address):
         """Whether another has the IMSI or the address, and there is room for one more."""
@@ -106,9 +109,12 @@ class Further:
         if count > limits.MOST_UNSPENT:
             raise runs.Fault(TOO_MANY % (imsi, count, limits.MOST_UNSPENT))
         self.form.add(line)
-        if (imsi, rand) in self.rands or slot is not None and self.stock.place_of(slot, bytes.fromhex(rand)) is not None:
+        if imsi + rand in self.seen or slot is not None and self.stock.place_of(slot, bytes.fromhex(rand)) is not None:
             raise runs.Fault(SAME_RAND % imsi)
-        self.rands.add((imsi, rand))
+
+    def end(self):
+        """No line comes any more: forgets what they are looked at with, since to forget all at once would take long."""
+        self.seen, self.form = {}, None
 
 
 class Adding:
@@ -133,6 +139,7 @@ class Adding:
         except runs.Fault as fault:
             self.end("fault %s" % fault)
             return
+        self.further.end()
         self.front.exchange.keep_unknown(self.further.imsis)
         self.put()
 
@@ -177,7 +184,8 @@ class Adding:
     def refuse(self, why):
         """No more of it is given."""
         if not self.is_over:
-            self.end("refused: %s: at least the first %d of %d lines were given" % (why, self.kept, len(self.further.lines)))
+            self.end("refused: %s: %s" % (why, "at least the first %d of %d lines were given" % (
+                self.kept, len(self.further.lines)) if self.place else "nothing was given"))
 
     def end(self, answer):
         self.is_over, self.front.giving = True, None

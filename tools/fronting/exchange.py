@@ -558,7 +558,8 @@ class Exchange:
     def has_been_answered(self, batch):
         """All of a batch is answered."""
         self.has_answered = True
-        for act in batch.after:
+        after, batch.after = batch.after, []  # they know the batch, and it goes once it doesn't know them
+        for act in after:
             act()
         self.do(batch.turn, self.settle, batch)
 

@@ -86,9 +86,8 @@ class Head:
 
 
 def fields_of_further(line):
-    """The word and the fields of a line `sub` or `vec`, of which the first is an IMSI and none is left out."""
+    """The word and the fields of a line `sub` or `vec`, none of which is left out."""
     word, fields = runs.fields_of(line.encode("latin-1"), {word: runs.PROVISIONING[word] for word in ("sub", "vec")})
-    runs.imsi_of(fields[0])
     if runs.NO_KEY in fields:
         raise runs.Fault("it has no keys: they were left out of a log")
     return word, fields
@@ -97,6 +96,7 @@ def fields_of_further(line):
 def imsi_of_further(line, known, facts):
     """The IMSI of a line that is to stand after these lines, which have these IMSIs."""
     word, (imsi, *octets) = fields_of_further(line)
+    runs.imsi_of(imsi)
     for field in octets:
         runs.octets_of(field)
     if line in facts:
