@@ -482,6 +482,31 @@ class Keyless(unittest.TestCase):
                                  [(at, xres) for at, xres, _ in together.places(digits)])
 
 
+    def test_little_work(self):
+        """One with a shorter XRES than all others is added without a look at these, and what is known of all is nothing that Python
+        goes through when it looks for what isn't used any more."""
+        self.form.add([vector(IMSI, number) for number in range(3)])
+        finder = self.form.finder
+        finder.by_length = {length: Unread(known) for length, known in finder.by_length.items()}
+        self.form.add(["vec %s %032x %032x aabbccdd %064x" % (IMSI, 8, 8, 8)])
+        self.assertEqual([at for at, _, _ in finder.places("aabbccdd%016x" % 3)], [0, 8])
+        self.form = keys.Keyless(provisioning.Head([*HEAD.splitlines(), vector(IMSI, 1)]))
+        further = self.form.further()
+        further.add(vector(IMSI, 2))
+        self.form.add([vector(IMSI, 2)])
+        known = [self.form.vectors.keys, further.vectors.keys, *self.form.finder.by_length.values()]
+        self.assertEqual([(len(each), gc.is_tracked(each)) for each in known], [(2, False), (1, False), (2, False)])
+
+
+class Unread(dict):
+    """A dict that nobody goes through."""
+
+    def __iter__(self):
+        raise AssertionError
+
+    keys = values = items = __iter__
+
+
 class Standing(unittest.TestCase):
     """A log that stands, with such lines."""
 

@@ -30,7 +30,7 @@ class Missing(runs.Fault):
 def parted(line):
     """A vector's name, which is its IMSI, RAND and AUTN in small letters, and its keys, XRES and KASME."""
     words = line.split(" ")
-    return " ".join(words[1:4]).lower(), words[4:]
+    return " ".join(words[1:4]).lower(), " ".join(words[4:])
 
 
 def without_keys(line):
@@ -44,7 +44,8 @@ def apart(line):
 
 
 class Vectors:
-    """The keys of vectors by the vectors' names: of lines, and of those that were known before."""
+    """The keys of vectors by the vectors' names: of lines, and of those that were known before. (Dicts of strings alone take no time
+    of Python's where it looks for what isn't used any more, however many vectors they have.)"""
 
     def __init__(self, lines=(), before=None):
         self.keys = dict(before.keys) if before else {}
@@ -56,17 +57,17 @@ class Vectors:
         """One more vector, by its line, which stands beside those that were known before."""
         name, keys = parted(line)
         imsi = name.partition(" ")[0]
-        if runs.NO_KEY in keys:
+        if runs.NO_KEY in keys.split(" "):
             raise runs.Fault("a vector of %s has no keys: they were left out of a log" % imsi)
         for other in (self.keys.setdefault(name, keys), before.keys.get(name, keys) if before else keys):
-            if other is not keys and [key.lower() for key in other] != [key.lower() for key in keys]:
+            if other is not keys and other.lower() != keys.lower():
                 raise runs.Fault(ALIKE % imsi)
 
     def of(self, name):
         """The keys of a vector."""
         if name not in self.keys:
             raise Missing("the log has a vector of %s, by its RAND and AUTN, that isn't among those given" % name.partition(" ")[0])
-        return self.keys[name]
+        return self.keys[name].split(" ")
 
 
 def read_vectors(path):
@@ -83,38 +84,31 @@ def read_vectors(path):
 
 
 class Finder:
-    """Finds where hex digits have an XRES."""
+    """Finds where hex digits have an XRES, by the XRESs of each length with their vectors' names, the longest first."""
 
     def __init__(self, vectors):
-        self.names, self.least, self.by_start = {}, 0, {}
+        self.by_length = {}
         self.add(vectors.keys)
 
     def add(self, keys):
         """Finds those of further vectors too."""
-        fresh = {}
-        for name, (xres, _) in keys.items():
-            xres = xres.lower()
-            if xres not in self.names and XRES.fullmatch(xres):
-                self.names[xres] = fresh[xres] = name
-        least = min(map(len, fresh), default=self.least)
-        if not self.least or least < self.least:
-            self.least, self.by_start, fresh = least, {}, self.names
-        for xres, name in fresh.items():
-            alike = self.by_start.setdefault(xres[:self.least], [])
-            alike.append((xres, name))
-            if len(alike) > 1:
-                alike.sort(key=lambda found: -len(found[0]))
+        for name, known in keys.items():
+            xres = known.partition(" ")[0].lower()
+            if XRES.fullmatch(xres):
+                if len(xres) not in self.by_length:
+                    self.by_length = dict(sorted([*self.by_length.items(), (len(xres), {})], reverse=True))
+                self.by_length[len(xres)].setdefault(xres, name)
 
     def places(self, digits):
         """Each place of an XRES from the left, with the XRES and its vector's name; none begins in another."""
-        least, known, found, end = self.least, self.by_start, [], 0
-        if not known:
-            return found
-        for at in [at for at in range(0, len(digits) - least + 1, 2) if digits[at:at + least] in known]:
-            fits = next(((xres, name) for xres, name in known[digits[at:at + least]] if digits.startswith(xres, at)), None)
-            if fits and at >= end:
-                found.append((at, *fits))
-                end = at + len(fits[0])
+        longest, found, end = {}, [], 0
+        for length, known in self.by_length.items():
+            for at in [at for at in range(0, len(digits) - length + 1, 2) if digits[at:at + length] in known]:
+                longest.setdefault(at, digits[at:at + length])
+        for at, xres in sorted(longest.items()):
+            if at >= end:
+                found.append((at, xres, self.by_length[len(xres)][xres]))
+                end = at + len(xres)
         return found
 
 
