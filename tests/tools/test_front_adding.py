@@ -869,6 +869,14 @@ class ByTheProgram(unittest.TestCase):
         self.assertTrue(running.log.read_text().startswith(HEAD + SUB + "\n"))
         self.assertNotIn(runs.FURTHER, running.log.read_text())
 
+    def test_too_much(self):
+        """More than is taken at once isn't read to its end, and it is said how much that is."""
+        running = Running(self)
+        (running.folder / "given").write_bytes(b"#\n" * limits.LONGEST_GIVEN)
+        self.assertEqual(running.asks("give", running.folder / "given"),
+                         "fault give has the number of octets that follow, up to %d\n" % limits.LONGEST_GIVEN)
+        self.assertEqual(running.stop()[0], 0)
+
 
 if __name__ == "__main__":
     unittest.main()

@@ -146,7 +146,8 @@ def ask(given):
             # Many lines are given in the time that they take.
             asking.settimeout(None if given.word in OF_FILE else limits.GIVING_SECONDS + limits.HOLD_SECONDS)
             try:
-                asking.sendall(octets)
+                with contextlib.suppress(BrokenPipeError, ConnectionResetError):  # what is too much isn't read to its end
+                    asking.sendall(octets)
                 answers = asking.makefile(encoding="utf-8", errors="replace", newline="\n")
                 answer = answers.readline()
                 counters = answers.readline() if wants_log(given) else ""
