@@ -21,7 +21,8 @@ from tests.tools.fronted import HEAD, IMSI, Running, said
 from tests.tools.test_front_guests import Turned
 from tests.tools.test_front_syncing import ByHand, Receiver
 from tools import runs
-from tools.fronting import adding, command, exchange, heads, journal, keys, limits, provisioning, resuming, standby, stock, teller
+from tools.fronting import (
+    adding, command, crowd, exchange, heads, journal, keys, limits, provisioning, resuming, standby, stations, stock, teller)
 from tools.fronting.faults import Failed
 from tools.fronting.front import Front
 from tools.fronting.guests import Door
@@ -420,6 +421,22 @@ class Whole(unittest.TestCase):
         """The IMSI that marks were for may be given."""
         self.give(SUB.replace(OTHER, NOBODY_AT_ALL))
         self.assertNotEqual(self.exchange.mark, b"data %s\n" % NOBODY_AT_ALL.encode())
+
+    def test_a_reset(self):
+        """A RESET by the id of a subscriber that was given just before may change something, so that it counts."""
+        settings = types.SimpleNamespace(rate=1, per_address=1, allow=(), setup_seconds=1)
+        made, station = crowd.Crowd(None, self.exchange, None, Meters(), None, settings), stations.Station(None, "", 0, 1, 0.0)
+        station.number = 0
+        station.associations.enb_ids.add(7)
+        reset = LTE.reset(LTE.part_of_interface((1 << runs.SLOT_BITS, None)))
+        for lines, nobodys in (("", {0}), (SUB, set())):
+            self.exchange.batch = journal.Batch()
+            self.give(lines)
+            made.hear([(station, [reset])])
+            self.assertEqual(self.exchange.batch.nobodys, nobodys)
+        self.assertEqual((self.exchange.slots, self.exchange.coming), (2, {OTHER}))
+        self.turn()
+        self.assertEqual((self.exchange.imsis, self.exchange.slots, self.exchange.coming), ([IMSI, OTHER], 2, set()))
 
     def test_an_end_between(self):
         """Where the front ends, it is said how much was given that is known to stand in the log."""

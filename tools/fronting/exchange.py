@@ -77,6 +77,11 @@ class Exchange:
         if self.nobody in imsis:
             self.mark_by(runs.unknown_imsi(self.coming.union(self.imsis)))
 
+    @property
+    def slots(self):
+        """How many subscribers there are or are to come."""
+        return len(self.imsis) + len(self.coming)
+
     def adopt(self, program):
         """From now on this one is the MME."""
         self.program = program
@@ -436,7 +441,9 @@ class Exchange:
 
     def take_further(self, lines):
         """Takes answers in a row to further lines of provisioning."""
-        self.lengthen([line[len(TAKEN):].decode("latin-1") for line in lines if line.startswith(TAKEN)])
+        taken = [line[len(TAKEN):].decode("latin-1") for line in lines if line.startswith(TAKEN)]
+        self.lengthen(taken)
+        self.coming.difference_update(line.split(" ", 2)[1] for line in taken if line.startswith("sub "))
         for line in lines:
             if line.startswith(NOT_TAKEN):
                 number, _, text = line[len(NOT_TAKEN):].decode("latin-1").partition(" ")
