@@ -820,6 +820,8 @@ class Gathered(tools.InFolder):
                 (begun + "in 0 0g\n" + given, 5, "'0g' aren't octets in hex"),
                 (begun + "show %s\n" % OTHER + given, 5, "nobody has the IMSI " + OTHER),
                 (begun + runs.FURTHER + "vec 1\n", 3, "vec has 5 fields, not 1"),
+                (begun + runs.FURTHER + "up 0\n", 3, "no line begins with 'up'"),
+                (begun + given + runs.FURTHER + SUB[:-1] + "\n", 4, adding.LENGTHS["sub"]),
                 (HEAD + "sub\n# segment 1, begun now\n", 3, "sub has 4 fields, not 0")):
             with self.subTest(why=why), self.assertRaises(runs.Fault) as caught:
                 lines = text.encode().splitlines(keepends=True)

@@ -46,6 +46,17 @@ def lines_in(text):
         at = end
 
 
+def found_in(line):
+    """What is looked at of a line; a fault where it isn't one that can be given."""
+    found = FORM.fullmatch(line)
+    if found is None:
+        if line.partition(" ")[0] not in runs.WORDS:
+            raise runs.Fault("no line begins so")
+        word, _ = fields_of_further(line)
+        raise runs.Fault(LENGTHS[word])
+    return found.groups()
+
+
 class Further:
     """Lines that are to be given, each looked at as one that comes after those before it: `lines` has those that aren't comments,
     `imsis` the IMSIs of new subscribers, and `seen` each line by its IMSI, a vector's by its IMSI and RAND. (That is a dict of
@@ -71,13 +82,7 @@ class Further:
             raise runs.Fault("line %d: %s" % (self.number, fault)) from None
 
     def look_at(self, line):
-        found = FORM.fullmatch(line)
-        if found is None:
-            if line.partition(" ")[0] not in runs.WORDS:
-                raise runs.Fault("no line begins so")
-            word, _ = fields_of_further(line)
-            raise runs.Fault(LENGTHS[word])
-        imsi, address, of_vector, rand = found.groups()
+        imsi, address, of_vector, rand = found_in(line)
         name = imsi or of_vector + rand.lower()
         if line in self.head.known or self.seen.get(name) == line:
             raise runs.Fault("it stands already")

@@ -13,6 +13,7 @@ from tools.eps.telling import BriefNow
 from tools.eps.world import World
 
 from tools.fronting import limits
+from tools.fronting.adding import found_in
 from tools.fronting.resuming import why_given_up
 from tools.fronting.segments import NUMBERED
 from tools.fronting.syncing import why_unsure
@@ -43,8 +44,10 @@ class Gathered:
                 self.head.append(line)
             elif line.startswith(FURTHER):
                 self.further.append(line[len(FURTHER):])
-        for number, line in enumerate(self.head + self.further, 1):
-            read_line(number, line, runs.WORDS)
+        for number, line in enumerate(self.head, 1):
+            read_line(number, line, lambda _, text: runs.fields_of(text, runs.WORDS))
+        for number, line in enumerate(self.further, len(self.head) + 1):
+            read_line(number, line, lambda _, text: found_in(text.decode("latin-1")))
         self.check_vectors()
 
     @property
@@ -99,20 +102,20 @@ class Gathered:
                 yield OTHERWISE % (number, " and ".join(runs.owner_text(owner, list(after.by_imsi)) for owner in found))
 
 
-def read_line(number, line, words, then=lambda *found: None):
-    """What is made of the word and the fields of a line that begins with one of these words; nothing of a comment."""
+def read_line(number, line, read):
+    """What a line is read as; nothing of a comment."""
     text = line.rstrip(b"\n")
     if not text or text.startswith(b"#"):
         return None
     try:
-        return then(number, *runs.fields_of(text, words))
+        return read(number, text)
     except runs.Fault as fault:
         raise runs.Fault(DAMAGED % (number, fault)) from None
 
 
 def answers(world, number, line):
     """What a line is answered: a state or a refusal, and messages."""
-    event = read_line(number, line, runs.EVENTS, runs.event_of)
+    event = read_line(number, line, lambda number, text: runs.event_of(number, *runs.fields_of(text, runs.EVENTS)))
     if event and event.word == "show" and event.imsi not in world.by_imsi:
         raise runs.Fault(DAMAGED % (number, "nobody has the IMSI %s" % event.imsi))
     return world.take(event)[:2] if event else (None, [])
