@@ -23,6 +23,7 @@ sys.dont_write_bytecode = True
 TOP = pathlib.Path(__file__).resolve().parent.parent.parent
 if __name__ == "__main__":
     sys.path[:1] = [str(TOP), str(TOP / "python")]
+from bench import gives, kills, wire
 from bench.etcds import MISSING, PROGRAM as ETCD, Members, free_port
 from reference import lte, phones as PHONES
 from tests.tools import fronted, test_front, test_front_etcd, test_front_keys, test_front_kills, test_front_log, test_front_sctp
@@ -443,6 +444,22 @@ class Storms(test_front_kills.Storms):
 class StormBySctp(test_front_sctp.Sctp):
     """The same by the SCTP of a kernel."""
     cases, variables = ("StormOfLibrary",), ("SOIZKADUR_LIBRARY",)
+
+
+class GivenInStorms(unittest.TestCase):
+    """The front killed again and again while it is given phones and their vectors (bench/gives.py)."""
+
+    def test_ends(self):
+        """Each line stands in its log once, in the file's order; nothing is used twice, and who was registered still is."""
+        given, told = kills.parser(gives.__doc__, gives.Storm).parse_args(
+            [*test_front_kills.SHORT, "--runs", "4", "--ends", "kill", "clean", "mme", "disk"]), []
+        given.mme = wire.LIBRARY
+        blown = gives.Storm(given, pathlib.Path(self.enterContext(tempfile.TemporaryDirectory())), told.append)
+        blown.blow()
+        said = "\n".join(told)
+        self.assertEqual(blown.watch.violations, [], said)
+        self.assertEqual(blown.counted["beginnings that went on"], 4, said)
+        self.assertGreater(blown.counted[gives.ANSWERED], 0, said)
 
 
 class Same(unittest.TestCase):

@@ -337,7 +337,7 @@ class Whole(unittest.TestCase):
         self.assertTrue(any("tick 1" in batch for batch in self.batches[places[0]:places[-1]]))
 
     def test_forgotten(self):
-        """Once it is answered nothing of it is kept, and that needn't be found out: to forget much of it at once would take long."""
+        """Once it is answered nothing of it is kept, and that need not be found out: to forget much at once takes long."""
         gc.disable()
         self.addCleanup(gc.enable)
         self.give("%s\n%s\n" % (SUB, vector(OTHER, 1)))
