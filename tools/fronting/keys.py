@@ -44,8 +44,8 @@ def apart(line):
 
 
 class Vectors:
-    """The keys of vectors by the vectors' names: of lines, and of those that were known before. (Dicts of strings alone take no time
-    of Python's where it looks for what isn't used any more, however many vectors they have.)"""
+    """The keys of vectors by the vectors' names: of lines, and of those that were known before. (Dicts of strings alone take no
+    time of Python's where it looks for what isn't used any more, however many vectors they have.)"""
 
     def __init__(self, lines=(), before=None):
         self.keys = dict(before.keys) if before else {}
