@@ -334,7 +334,7 @@ class Mme:
             if self._played.unsaid:
                 told += [b"%s\n" % str(out).encode() for out in self._messages(0)]
             if answer != Refusal.NO_ROOM or not (self._played.lines or self._played.taken or self._played.unsaid):
-                raise Refused(answer, before + 1, b"".join(told))
+                raise Refused(answer, before + 1, answers=b"".join(told))
             rest = rest.split(b"\n", self._played.lines)[-1]
             rest, whole = self._rest_of(rest)
             before += whole
