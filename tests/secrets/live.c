@@ -6,9 +6,9 @@
  *
  * The first event or question starts the MME. For each line that provisions after that, `told N` has the number that its call
  * answers. A line `refuse N` has the Nth allocation of the next such call refused. A line `save` has the MME saved part by part,
- * and is answered by `saved`; `hand` the same, by `handed` and the snapshot in hex. `restore HEX`, to a program that was told
- * nothing else, has it go on from a snapshot, and is answered by `restored`; `restore` with octets that are refused, by `restored
- * N`.
+ * and is answered by `saved`; `hand` the same, by `handed` and the snapshot in hex. `restore HEX` has the MME end, if one runs, and
+ * the program go on from a snapshot, and is answered by `restored`; with octets that are refused there is no MME then, and it is
+ * answered by `restored N`.
  */
 #define _POSIX_C_SOURCE 200809L
 #include "../library/calls.h"
@@ -77,7 +77,7 @@ static unsigned value_of(char digit)
     return (unsigned)(digit <= '9' ? digit - '0' : digit - 'a' + 10);
 }
 
-/* Restores the MME of octets in hex. */
+/* Restores the MME of octets in hex, in place of one that runs. */
 static void restore(soizkadur_mme *mme, struct span hex, struct text *answers)
 {
     size_t length = hex.length / 2;
@@ -85,6 +85,7 @@ static void restore(soizkadur_mme *mme, struct span hex, struct text *answers)
     must(length <= sizeof snapshot, "there is room for the snapshot");
     for (size_t at = 0; at < length; at++)
         snapshot[at] = (uint8_t)(value_of(hex.at[2 * at]) << 4 | value_of(hex.at[2 * at + 1]));
+    soizkadur_free(mme);
     uint32_t answer = soizkadur_restore(mme, snapshot, length, UINT64_MAX, &place);
     wipe(snapshot, length);
     if (answer == SOIZKADUR_OK)

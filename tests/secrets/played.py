@@ -187,19 +187,34 @@ class Played(phones.Trace):
         self.say("save")
         self.answers.append("saved")
 
-    def restarts(self):
-        """The program ends; another goes on from the snapshot that it hands out, after octets that it refuses."""
+    def snapshot(self):
+        """The digits of a snapshot of the MME."""
         self.settle()
         self.hand(b"hand\n")
         word, _, snapshot = self.process.stdout.readline().decode().rstrip("\n").partition(" ")
         if word != "handed":
             raise Fault("no snapshot, but %s" % word)
+        return snapshot
+
+    def restores(self, snapshot, answer="restored"):
+        """An MME is restored, or what is no snapshot is refused."""
+        self.settle()
+        self.hand(b"restore " + snapshot.encode() + b"\n")
+        self.answers.append(answer)
+        self.settle()
+
+    def restarts(self):
+        """The program ends; another goes on from the snapshot that it hands out."""
+        snapshot = self.snapshot()
         self.process.communicate()
         self.begin()
-        for octets, answer in ((snapshot[:-2], "restored %d" % NO_SNAPSHOT), (snapshot, "restored")):
-            self.hand(b"restore " + octets.encode() + b"\n")
-            self.answers.append(answer)
-            self.settle()
+        self.restores(snapshot)
+
+    def restores_itself(self):
+        """The program goes on from its own snapshot, after octets that are refused."""
+        snapshot = self.snapshot()
+        self.restores(snapshot[:-2], "restored %d" % NO_SNAPSHOT)
+        self.restores(snapshot)
 
     def end(self):
         """Ends the program."""

@@ -152,10 +152,14 @@ class LateRun(Run):
         """The phones whose vectors are looked for while they aren't spent."""
         return [self.staying, *self.each(self.rounds[0]), self.full, *self.needy]
 
+    def others(self):
+        """The phones that come after them."""
+        return self.each(*self.rounds[1:])
+
     def begin(self):
         self.trace.provision([])
         self.scene.set_up()
-        every = [*self.looked_for(), *self.each(*self.rounds[1:])]
+        every = [*self.looked_for(), *self.others()]
         for phone in sorted(every, key=lambda phone: phone.slot):
             self.trace.say(phone.line)
             self.trace.answers.append(TOLD)
@@ -199,37 +203,61 @@ EARLY = {"restored challenged": 1, "restored in security mode": 1, "restored con
 
 
 class RestoredRun(LateRun):
-    """The same of an MME that another goes on from, restored while phones are challenged, in security mode and registered."""
+    """The same of an MME that another goes on from, restored while phones are challenged, in security mode and registered. In each
+    later round others are so when the MME is restored again."""
 
     def __init__(self, words, rounds):
         super().__init__(words, rounds)
         self.early = [self.phone(vectors, way) for way, vectors in EARLY.items()]
+        self.followers = [[self.phone(vectors, LATER) for vectors in EARLY.values()] for _ in self.rounds[1:]]
 
     def looked_for(self):
         return super().looked_for() + self.early
 
+    def others(self):
+        return super().others() + [phone for several in self.followers for phone in several]
+
     def left(self):
         return super().left() + [secret for phone in self.early for secret in phone.secrets()]
 
-    def begin(self):
-        super().begin()
-        challenged, secured, connected, idle = self.early
+    def later(self):
+        return super().later() + [secret for several in self.followers for phone in several for secret in phone.secrets()]
+
+    def come(self, challenged, secured, connected, idle):
+        """Phones come to be as their names say."""
         for phone in challenged, secured:
             self.scene.challenges(phone)
         secured.authenticates()
         for phone in connected, idle:
             self.scene.attaches(phone)
         idle.is_released()
-        self.trace.restarts()
+
+    def go(self, challenged, secured, connected, idle):
+        """They leave."""
         challenged.gives_any_res()
         secured.rejects_security()
         connected.detaches()
         idle.detaches_from_idle(self.scene.there, self.scene.next())
 
+    def begin(self):
+        super().begin()
+        self.come(*self.early)
+        self.trace.restarts()
+        self.go(*self.early)
+
+    def play_round(self, turn):
+        super().play_round(turn)
+        if turn is not self.rounds[0]:
+            several = self.followers[self.rounds.index(turn) - 1]
+            self.come(*several)
+            self.trace.restores_itself()
+            self.go(*several)
+
 
 def live_program(library, room):
-    """The words of the program of live.c over the library in a folder."""
+    """The words of the program of live.c over the library in a folder. The loader binds the C library's functions as the program
+    begins: where it binds one at its first call, it saves registers on the stack, with what they hold of a key."""
     program = pathlib.Path(room, "live")
     subprocess.run(["gcc", "-std=c11", "-O2", "-Wall", "-Wextra", "-Wpedantic", "-Werror", "-I", library, HERE / "live.c",
-                    library / "libsoizkadur.a", "-Wl,--wrap=malloc,--wrap=realloc", "-o", program], check=True)
+                    library / "libsoizkadur.a", "-Wl,--wrap=malloc,--wrap=realloc", "-Wl,-z,now", "-o", program], check=True)
     return [program]
