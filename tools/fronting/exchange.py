@@ -53,6 +53,7 @@ class Exchange:
         self.note_settled = lambda batch: None  # who is told of each batch that is answered and kept
         self.lengthen = lambda lines: None  # who is told of further lines of provisioning that the MME took
         self.note_refused = lambda number, line: None  # who is told of one that it refused, and by which number
+        self.note_further = lambda lines: None  # who is told of all of them, in their order
         self.dirty, self.rest, self.heard_at = set(), b"", 0.0
         self.has_answered, self.held_since = False, None
         self.is_replaying = False  # whether answers are those that were given before
@@ -65,7 +66,7 @@ class Exchange:
         self.make, self.imsis, self.coming = make, head.imsis, set()
         self.mark_by(head.unknown_imsi())
         self.adopt(make(self.loop, self.hear, self.voice.say))
-        self.program.give(head.text.encode("latin-1"))
+        self.program.begin(head)
 
     def mark_by(self, imsi):
         """Marks are for this IMSI, which nobody has."""
@@ -308,11 +309,14 @@ class Exchange:
         """Says which segments went for new ones."""
         for series, path in self.journal.take_gone():
             self.meters.gone += 1
-            self.voice.say("segment_gone", "%s is the oldest segment, and removed: %s" % (path, self.meant_by_missing(series)),
+            self.voice.say("segment_gone", "%s is the oldest segment, and removed: %s" % (
+                path, self.meant_by_missing(series, is_old=True)),
                            path=path)
 
-    def meant_by_missing(self, series):
-        """What it means that a part of a series is missing."""
+    def meant_by_missing(self, series, is_old=False):
+        """What it means that a part of a series, or of its oldest segments, is missing."""
+        if series is self.journal.counts and self.journal.needed is not None:
+            return "a snapshot has what it led to" if is_old else "--resume can't use this run until there is another snapshot"
         if series is self.journal.counts:
             return "--resume and give can't use this run any more"
         return "the trace no longer plays from its beginning"
@@ -436,6 +440,8 @@ class Exchange:
 
     def take_further(self, lines):
         """Takes answers in a row to further lines of provisioning."""
+        self.note_further([(line[len(TAKEN):] if line.startswith(TAKEN) else line.split(b" ", 2)[2]).decode("latin-1")
+                           for line in lines])
         self.lengthen([line[len(TAKEN):].decode("latin-1") for line in lines if line.startswith(TAKEN)])
         for line in lines:
             if line.startswith(NOT_TAKEN):

@@ -30,7 +30,12 @@ def line_of(number, note=""):
 
 def older_segments(path):
     """The segments before the one that is written, by number."""
-    prefix = os.path.basename(path) + ".segment."
+    return numbered(path, ".segment.")
+
+
+def numbered(path, mark):
+    """The files whose names are that of another, a mark and a number, by number."""
+    prefix = os.path.basename(path) + mark
     folder = pathlib.Path(path).parent
     found = [entry.name for entry in folder.iterdir() if entry.name.startswith(prefix)] if folder.is_dir() else []
     return {int(name[len(prefix):]): str(folder / name) for name in found if re.fullmatch("[0-9]+", name[len(prefix):])}

@@ -63,6 +63,13 @@ class Stock:
             self.spent[slot] = place + 1
             self.move(slot, before)
 
+    def spend(self, counts):
+        """So many vectors of each phone are used."""
+        for slot, count in enumerate(counts):
+            if count != self.spent[slot]:
+                before, self.spent[slot] = self.left(slot), count
+                self.move(slot, before)
+
     def place_of(self, slot, rand, since=0):
         """The place of a phone's vector, from one on; nothing where none has this RAND."""
         rands = self.rands[slot]
