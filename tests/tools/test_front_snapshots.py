@@ -227,6 +227,31 @@ class GoesOn(unittest.TestCase):
         self.assertEqual(min(older_segments(str(running.log) + ".counts")), 1)
         self.assertEqual(running.goes_on(self, *NEVER).state()[0], 130)
 
+    def test_moved(self):
+        """Where what counts is moved away, the next snapshot is made at once, after which the run can go on again."""
+        running = Saved(self, *NEVER)
+        station, counts = running.station(), str(running.log) + ".counts"
+        running.says(3, station)
+        running.until(lambda: "in 0 f6" in pathlib.Path(counts).read_text())
+        os.replace(counts, counts + ".elsewhere")
+        running.until(lambda: b"--resume can't use this run until there is another snapshot" in running.said())
+        running.until(lambda: station.says(REMEMBERED) and running.snapshots())
+        heard = running.state()[0]
+        self.assertEqual(running.killed().goes_on(self, *NEVER).state()[0], heard)
+
+    def test_given_by_a_program(self):
+        """What a program gives stands in the log's head, so that no snapshot before is of it."""
+        running = Saved(self, *NEVER)
+        running.says(3, running.station())
+        self.assertEqual((running.stop()[0], list(running.snapshots())), (0, [1]))
+        head = PROVISIONED + OTHER_SUB + "\n"
+        program = Running(self, "--resume", head=PROVISIONED, folder=running.folder)
+        self.assertEqual(give(program, OTHER_SUB + "\n"), "given 1 subscriber, 0 vectors\n")
+        self.assertEqual((program.stop()[0], running.snapshots()), (0, {}))
+        again = running.goes_on(self, *NEVER, head=head)
+        self.assertEqual(again.asks("phones").count("vectors_left="), 2)
+        self.assertEqual(again.state()[0], 3)
+
     def test_begun_without_vectors(self):
         """A run that began without the vectors that were used goes on after a snapshot, also where the subscribers' file lacks
         some of these since."""

@@ -20,7 +20,7 @@ from tools.fronting.challenges import AUTHENTICATION_REQUEST_DIGITS, challenged
 from tools.fronting.faults import BABBLES, Ended, Failed, LOG_FAILS, SILENT, Unheld, told
 from tools.fronting.journal import Batch
 from tools.fronting.meters import CONTEXT_REQUEST, DOWNLINK, ERROR_INDICATION, RESET_ACKNOWLEDGE, SETUP_RESPONSE
-from tools.fronting.mme import MARK_ANSWER, NOT_TAKEN, TAKEN
+from tools.fronting.mme import MARK_ANSWER, NOT_TAKEN, TAKEN, nothing
 from tools.fronting.used import entry_of
 
 OUT, STATE, PHONE_OWNER, OWNERS = b"out ", b"state ", ord("s"), b"esx"
@@ -54,6 +54,7 @@ class Exchange:
         self.lengthen = lambda lines: None  # who is told of further lines of provisioning that the MME took
         self.note_refused = lambda number, line: None  # who is told of one that it refused, and by which number
         self.note_further = lambda lines: None  # who is told of all of them, in their order
+        self.note_missing = nothing  # who is told that a part of what counts is missing
         self.dirty, self.rest, self.heard_at = set(), b"", 0.0
         self.has_answered, self.held_since = False, None
         self.is_replaying = False  # whether answers are those that were given before
@@ -381,6 +382,8 @@ class Exchange:
                 if change:
                     self.voice.say("log_" + change.split()[-1], "%s %s: what comes is in a new file there, and %s" % (
                         series.path, change, self.meant_by_missing(series)), path=series.path)
+                    if series is self.journal.counts:
+                        self.note_missing()
                 elif rolls:
                     self.journal.roll(series)
             self.write_settled(rolls)

@@ -78,6 +78,7 @@ class Front:
             return self.begin_in_store()
         more = self.resume() if self.has_log() else None
         if more is None:
+            self.saving.begin_anew()
             self.put_away()
             self.leave_out_used()
             journal = Journal.begun(self.settings.log, self.head, *self.log_size, self.form)
@@ -142,7 +143,7 @@ class Front:
         self.exchange = Exchange(self.loop, self.voice, self.meters, self.used, self.settings.full_disk)
         self.exchange.note_challenge = self.note_challenge
         self.exchange.lengthen, self.exchange.note_refused = self.lengthen, self.has_refused
-        self.exchange.note_further = self.saving.add
+        self.exchange.note_further, self.exchange.note_missing = self.saving.add, self.saving.hurry
         self.start_mme(head, make)
 
     def start_mme(self, head, make=None):

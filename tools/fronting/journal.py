@@ -23,7 +23,7 @@ from tools import runs
 from tools.fronting import limits
 from tools.fronting.faults import Failed, LOG_FAILS, Unheld, told
 from tools.fronting.keys import Whole
-from tools.fronting.segments import Reading, Series
+from tools.fronting.segments import SNAPSHOT, Reading, Series, numbered
 from tools.fronting.syncing import folder_of, forget_unsynced, note_unsynced, sync_path
 from tools.fronting.turns import Turns
 
@@ -409,6 +409,8 @@ class Journal(Turns):
 
     def lengthen(self, head, form):
         """Both series have this head from now on, in the form that it brings; there is no line that has to say so."""
+        for snapshot in numbered(self.path, SNAPSHOT).values():
+            os.unlink(snapshot)  # since it is of the head before
         self.form = form
         octets = form.text(head).encode("latin-1")
         self.lines_given += octets.count(b"\n") - self.head_lines

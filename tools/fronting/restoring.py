@@ -1,13 +1,13 @@
 """Going on after a snapshot: the newest that is whole and fits, and the log since."""
 import functools
 
+from tools.fronting.challenges import RAND_OCTETS
 from tools.fronting.mme import LibraryMme
 from tools.fronting.provisioning import Head
-from tools.fronting.resuming import SNAPSHOT, NoResume, Standing
-from tools.fronting.segments import numbered
+from tools.fronting.resuming import NoResume, Standing
+from tools.fronting.segments import SNAPSHOT, numbered
 from tools.fronting.snapshots import CUT, Unfit, read
 from tools.fronting.used import entry_of
-from tools.fronting.challenges import RAND_OCTETS
 
 NO_REASONS = "the run goes on after a snapshot, and they are found where the log is played from its beginning"
 OF_LIBRARY = "%s has snapshots, which the library alone takes (--library): the log is played from its beginning"

@@ -13,7 +13,7 @@ from tools.fronting.faults import WRONG, Failed
 from tools.fronting.journal import GIVEN_UP, UNTIL, Batch, Journal, clock
 from tools.fronting.keys import Keyless
 from tools.fronting.provisioning import Head
-from tools.fronting.segments import NUMBERED, Series, mend, name_of, numbered, older_segments
+from tools.fronting.segments import NUMBERED, SNAPSHOT, Series, mend, name_of, numbered, older_segments
 from tools.fronting.syncing import UNSYNCED
 
 TIMES = re.compile(rb"# time ([0-9-]+ [0-9:.]+)\n")
@@ -28,7 +28,6 @@ PIECE = 1 << 18  # octets that the MME is given at once
 OF_LIBRARY = "%s has lines of provisioning where they were given (`#+ `), which `mme play` skips: go on with --library"
 OR_FILLED = ", or with what `mme-front fill --head` makes of it (deploy/README.md)"  # of a log in files
 OTHERS = (".counts", GIVEN_UP, UNSYNCED)  # what belongs to a log, after its name
-SNAPSHOT = ".snapshot."  # and before a snapshot's number
 COMMENTS = (runs.LEFT_OUT, "# came protected: ", runs.BEGUN_ANEW)  # how lines begin that are about the line below them
 
 

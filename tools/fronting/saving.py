@@ -6,6 +6,7 @@ The library makes no calls in the child of a process with threads, so the front'
 once what counts is on disk up to its place and a line that says so; only then segments that no start needs may go.
 """
 import contextlib
+import math
 import os
 import resource
 import select
@@ -16,8 +17,7 @@ import typing
 from tools.fronting import limits
 from tools.fronting.faults import Failed, told
 from tools.fronting.journal import clock
-from tools.fronting.resuming import SNAPSHOT
-from tools.fronting.segments import numbered, open_new
+from tools.fronting.segments import SNAPSHOT, numbered, open_new
 from tools.fronting.snapshots import Provisioned, drawn, key_in, lines_of_segments, mark_line, name_of, write
 from tools.fronting.syncing import folder_of, sync_path
 from tools.fronting.used import vector_of
@@ -74,6 +74,10 @@ class Saving:
         """Further lines of provisioning stand in the log."""
         if self.provisioned is not None:
             self.provisioned.add(lines)
+
+    def begin_anew(self):
+        """The run goes on after none."""
+        self.kept, self.counted = [], 0
 
     def has_taken(self, number, segment, octets):
         """The run goes on after this snapshot, with so many octets of what counts since."""
@@ -133,6 +137,12 @@ class Saving:
         if exchange.is_held:
             self.make(now)
             exchange.is_held = False
+
+    def hurry(self):
+        """A part of the log is missing: what is under way is of no use, and the next one is due at once."""
+        if self.rule:
+            self.stop()
+            self.counted, self.again = -math.inf, 0.0
 
     # How it is made.
 
@@ -234,7 +244,7 @@ class Saving:
         """One can't be made. It is tried again."""
         self.again = time.monotonic() + limits.SNAPSHOT_AGAIN
         before, self.why_not = self.why_not, why
-        if before is None:
+        if before is None and self.journal is not None:
             self.front.voice.say("no_snapshot", "no snapshot can be made, so that no segment of %s goes: %s" % (
                 self.journal.counts.path, why))
 

@@ -15,6 +15,7 @@ from tools.fronting.syncing import folder_of, sync_path
 NUMBERED = re.compile(rb"^# segment (\d+), begun .*\n", re.MULTILINE)
 NUMBERED_LINE = re.compile(r"# segment \d+, begun ")  # the beginning of such a line
 DIGITS = 6
+SNAPSHOT = ".snapshot."  # after a log's name, before a snapshot's number (snapshots.py)
 PIECE = 1 << 17  # octets that are read at once
 
 

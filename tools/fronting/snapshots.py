@@ -24,8 +24,8 @@ import sys
 from tools import runs, versions
 
 from tools.fronting.faults import WRONG, Failed, told
-from tools.fronting.resuming import SNAPSHOT, NoResume
-from tools.fronting.segments import DIGITS, NUMBERED, numbered
+from tools.fronting.resuming import NoResume
+from tools.fronting.segments import DIGITS, NUMBERED, SNAPSHOT, numbered
 from tools.fronting.used import vector_of
 
 VERSION = 1
