@@ -201,6 +201,8 @@ def read_trace(octets, name="trace"):
 
     def read(line, text):
         nonlocal is_begun
+        if is_begun and not events and text.startswith(b"vec ") and text.count(b" ") == PROVISIONING["vec"]:
+            return
         event = usual_event(line, text) if events else None
         if event:
             events.append(event)

@@ -55,7 +55,7 @@ class Front:
 
     def __init__(self, settings, head, voice, used):
         self.settings, self.head, self.voice, self.used = settings, head, voice, used
-        self.facts = head.facts  # of the subscribers' file
+        self.facts = list(head.facts)  # of the subscribers' file
         self.loop, self.manager = Loop(), Manager(os.environ)
         self.meters = Meters(keeps_messages=settings.page is not None)
         self.exchange = self.crowd = self.control = self.page = self.giving = self.stock = self.teller = self.followers = None
@@ -238,7 +238,8 @@ class Front:
 
     def check_used(self, facts, log):
         """Refuses a log that hasn't each challenge whose vector was used: it isn't what the MME was given last."""
-        missing = self.used.among(facts) - self.exchange.replayed
+        left = self.used.known - self.exchange.replayed
+        missing = left and left & self.used.among(facts)
         self.exchange.replayed = None
         if missing:
             raise NoResume("%s has no challenge of %s that %s has: something is missing in it, or another run came after it" % (
@@ -268,6 +269,8 @@ class Front:
         lines = self.form.taken_up(standing.facts, given)
         if lines is None:
             raise NoResume("%s begins with other lines than %s%s" % (log, subscribers, OTHER_LINES[standing.has_keys]))
+        if standing.make:
+            return standing.head
         return Head(list(standing.head.lines) if standing.has_keys else lines[:len(standing.head.facts)])
 
     def play(self, standing, head):

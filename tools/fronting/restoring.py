@@ -25,12 +25,12 @@ class RestoredMme(LibraryMme):
 
 
 class StandingAfter(Standing):
-    """A log that stands, from a snapshot on; `lines` are those of provisioning that the snapshot is of."""
+    """A log that stands, from a snapshot on, which is of this head."""
 
     has_keys = True  # since no snapshot is made beside a log without keys
 
-    def __init__(self, path, number, name, snapshot, lines):
-        self.number, self.name, self.snapshot, self.head = number, name, snapshot, Head(lines)
+    def __init__(self, path, number, name, snapshot, head):
+        self.number, self.name, self.snapshot, self.head = number, name, snapshot, head
         super().__init__(path)
         is_past = self.first == max(self.counts) and self.start > self.counts_end
         if is_past or self.settled_until() < tuple(snapshot.about["happened"]):
@@ -72,7 +72,8 @@ def standing_after(front):
     for number, name in sorted(snapshots.items(), reverse=True):
         try:
             snapshot = read(name, front.saving.key)
-            standing = StandingAfter(log, number, name, snapshot, snapshot.standing_lines(front.head.facts))
+            lines = snapshot.standing_lines(front.head.facts)
+            standing = StandingAfter(log, number, name, snapshot, front.head if front.head.lines == lines else Head(lines))
             standing.take(front.package)
             return standing
         except Unfit as fault:

@@ -1,6 +1,7 @@
 """Taking up a log: what a run that ended has of what counts, and of what happened since that was settled."""
 import contextlib
 import datetime
+import functools
 import mmap
 import os
 import pathlib
@@ -13,7 +14,7 @@ from tools.fronting.faults import WRONG, Failed
 from tools.fronting.journal import GIVEN_UP, UNTIL, Batch, Journal, clock
 from tools.fronting.keys import Keyless
 from tools.fronting.provisioning import Head
-from tools.fronting.segments import NUMBERED, SNAPSHOT, Series, mend, name_of, numbered, older_segments
+from tools.fronting.segments import SNAPSHOT, Series, mend, name_of, numbered, older_segments, own_line
 from tools.fronting.syncing import UNSYNCED
 
 TIMES = re.compile(rb"# time ([0-9-]+ [0-9:.]+)\n")
@@ -136,7 +137,7 @@ def head_facts(path):
         with contextlib.suppress(OSError):
             older = older_segments(series)
             octets = pathlib.Path(older[min(older)] if older else series).read_bytes()
-            found = NUMBERED.search(octets)
+            found = own_line(octets)
             head = octets[:found.start()] if found else b""
             if head and b"\0" not in head:
                 return head.decode("latin-1").splitlines()
@@ -158,7 +159,7 @@ def perhaps_used(path, others):
 
 def own_number(path, octets):
     """The number that stands in a segment."""
-    own = NUMBERED.search(octets)
+    own = own_line(octets)
     if not own:
         raise NoResume("a segment of %s has no line of its number" % path)
     return int(own[1])
@@ -225,7 +226,7 @@ class Standing:
     def begin(self):
         """Finds where it begins, and with which head."""
         self.begin_with(1)
-        first = NUMBERED.search(self.counts[1])
+        first = own_line(self.counts[1])
         self.start, self.has_keys = first.end(), not first[0].endswith(Keyless.note.encode() + b"\n")
         try:
             self.head = Head(self.counts[1][:first.start()].decode("latin-1").removesuffix("\n").split("\n"))
@@ -241,7 +242,7 @@ class Standing:
     def restore(self, front, up):
         """What the front and `up`, the stations that were connected, have before the first line that is played."""
 
-    @property
+    @functools.cached_property
     def facts(self):
         """The lines of provisioning, as they stand."""
         return self.head.facts + self.further
@@ -250,7 +251,7 @@ class Standing:
         """Up to where what counts is good: the last line that says what is settled, or what stands before the first of all."""
         last = self.counts[max(self.counts)]
         found = last_of(UNTIL, SETTLED, last)
-        return found.end() if found else NUMBERED.search(last).end()
+        return found.end() if found else own_line(last).end()
 
     def settled_until(self):
         """The place of what happened up to which it is settled."""
@@ -289,7 +290,7 @@ class Standing:
         tail, places = [], []
         for other, octets in self.happened.items():
             if other >= number:
-                base, start = NUMBERED.search(octets).end(), offset if other == number else 0
+                base, start = own_line(octets).end(), offset if other == number else 0
                 end = whole_until(octets, base + start)
                 if end < len(octets) and other < max(self.happened):
                     raise NoResume("segment %d of %s isn't whole" % (other, self.path))

@@ -14,6 +14,7 @@ from tools.fronting.syncing import folder_of, sync_path
 
 NUMBERED = re.compile(rb"^# segment (\d+), begun .*\n", re.MULTILINE)
 NUMBERED_LINE = re.compile(r"# segment \d+, begun ")  # the beginning of such a line
+SEGMENT = b"# segment "
 DIGITS = 6
 SNAPSHOT = ".snapshot."  # after a log's name, before a snapshot's number (snapshots.py)
 PIECE = 1 << 17  # octets that are read at once
@@ -27,6 +28,14 @@ def name_of(path, number):
 def line_of(number, note=""):
     """The line of a segment's number, with a note on what it has."""
     return b"# segment %d, begun %s\n" % (number, (time.strftime("%F %T UTC", time.gmtime()) + note).encode())
+
+
+def own_line(octets):
+    """The line of its number in a segment, or nothing."""
+    at = 0 if octets[:len(SEGMENT)] == SEGMENT else octets.find(b"\n" + SEGMENT) + 1
+    while octets[at:at + len(SEGMENT)] == SEGMENT and not (found := NUMBERED.match(octets, at)):
+        at = octets.find(b"\n" + SEGMENT, at) + 1 or len(octets)
+    return found if octets[at:at + len(SEGMENT)] == SEGMENT else None
 
 
 def older_segments(path):
@@ -104,7 +113,7 @@ class Series:
         series.file = os.open(path, os.O_RDWR | os.O_APPEND)
         series.size = os.fstat(series.file).st_size
         with mmap.mmap(series.file, 0, access=mmap.ACCESS_READ) as octets:
-            series.base = NUMBERED.search(octets).end()
+            series.base = own_line(octets).end()
         return series
 
     def begin(self, head=b""):

@@ -25,7 +25,7 @@ from tools import runs, versions
 
 from tools.fronting.faults import WRONG, Failed, told
 from tools.fronting.resuming import NoResume
-from tools.fronting.segments import DIGITS, NUMBERED, SNAPSHOT, numbered
+from tools.fronting.segments import DIGITS, SNAPSHOT, numbered, own_line
 from tools.fronting.used import vector_of
 
 VERSION = 1
@@ -117,8 +117,8 @@ def lines_of_segments(path):
     for name in (*numbered(path, ".segment.").values(), path):
         with open(name, "rb") as file:
             octets = file.read(PIECE)
-            while not (own := NUMBERED.search(octets)) and (more := file.read(PIECE)):
-                octets = octets[-PIECE:] + more
+            while not (own := own_line(octets)) and (more := file.read(PIECE)):
+                octets = octets[octets.rfind(b"\n") + 1:] + more
         if own:
             found[own[1].decode()] = hashlib.sha256(own[0]).hexdigest()
     return found
@@ -199,11 +199,11 @@ class Snapshot:
         number, offset = self.about["counts"]
         line = mark_line(self.about["number"], self.about["mark"])
         for other in sorted(other for other in counts if other >= number):
-            start = NUMBERED.search(counts[other]).end() + offset if other == number else 0
+            start = own_line(counts[other]).end() + offset if other == number else 0
             at = counts[other].find(line, start)
             if at >= 0:
                 return other, at + len(line)
-        own = {str(number): hashlib.sha256(NUMBERED.search(octets)[0]).hexdigest() for number, octets in counts.items()}
+        own = {str(number): hashlib.sha256(own_line(octets)[0]).hexdigest() for number, octets in counts.items()}
         if own.items() & self.about["segments"].items():
             raise NoResume(CUT % (log, name))
         raise Unfit(ALIEN % log)

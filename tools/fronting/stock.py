@@ -25,15 +25,15 @@ class Stock:
             if word == "sub":
                 fresh.append(b"")
             elif word == "vec":
-                imsi, rand = rest.split(" ")[:2]
-                further.setdefault(head.slots[imsi], []).append(runs.octets_of(rand))
+                imsi, rand, _ = rest.split(" ", 2)
+                further.setdefault(head.slots[imsi], []).append(rand)
         self.lines = len(head.lines)
         self.rands += fresh
         self.spent += [0] * len(fresh)
         self.phones[0] += len(fresh)
         for slot, rands in further.items():
             before = self.left(slot)
-            self.rands[slot] += b"".join(rands)
+            self.rands[slot] += runs.octets_of("".join(rands))
             self.move(slot, before)
 
     def left(self, slot):
