@@ -27,8 +27,7 @@ if __name__ == "__main__":
 from bench.etcds import MISSING, PROGRAM as ETCD, Members, free_port
 from reference import lte, phones as PHONES
 from tests.tools import fronted, test_front, test_front_etcd, test_front_keys, test_front_kills, test_front_log, test_front_power
-from tests.tools import test_front_sctp
-from tests.tools import tools
+from tests.tools import test_front_sctp, tools
 from tests.tools.test_front_log import Talk, give, whole
 from tools import runs
 from tools.fronting import limits, snapshots

@@ -18,8 +18,8 @@ from reference import phones as PHONES
 from tests.tools import tools
 from tests.tools.fronted import HEAD, IMSI, LIBRARY, REMEMBERED, Running, said
 from tests.tools.test_front_log import give
-from tools.fronting import limits, resuming, saving, snapshots
-from tools.fronting.segments import numbered, older_segments
+from tools.fronting import limits, saving, snapshots
+from tools.fronting.segments import SNAPSHOT, numbered, older_segments
 
 SAVED = tools.TOP / "tests" / "tools" / "saved_front.py"
 OFTEN = ("--snapshot", "0.0005,0.0005", "--second", "0.1")  # 30 ms, some 500 octets
@@ -44,7 +44,7 @@ class Saved(Running):
 
     def snapshots(self):
         """The snapshots that stand, by number."""
-        return numbered(str(self.log), resuming.SNAPSHOT)
+        return snapshots_in(self.folder)
 
     def has_saved(self, number):
         """Waits for a snapshot with this number or a later one."""
@@ -68,31 +68,39 @@ class Saved(Running):
         """The front that goes on after it."""
         return Saved(test, "--resume", *words, **{"folder": self.folder, **named})
 
-    def told_at_start(self, test, *words, **named):
-        """The status and the words of one that can't go on."""
-        return self.goes_on(test, *words, **named).ended()
+
+def snapshots_in(folder):
+    """The snapshots that stand beside a log, by number."""
+    return numbered(str(folder / "log"), SNAPSHOT)
 
 
 class Standing(unittest.TestCase):
-    """A front with two snapshots that was killed, and what it had answered: tests go on after copies of it."""
+    """A front with two snapshots was killed, and had answered so many messages that count: each test goes on after a copy of it."""
 
-    WORDS = OFTEN
+    HEARD = 10
 
-    def setUp(self):
-        running = Saved(self, *self.WORDS)
+    @classmethod
+    def setUpClass(cls):
+        of_all = types.SimpleNamespace(enterContext=cls.enterClassContext, addCleanup=cls.addClassCleanup)
+        running = Saved(of_all, *OFTEN)
         station = running.station()
         for number in (1, 2):
-            running.says(5, station)
+            running.says(cls.HEARD // 2, station)
             running.challenges(station)
             running.has_saved(number)
-        self.heard, self.running = 10, running.killed()
+        cls.made = running.killed().folder
+
+    def setUp(self):
+        self.folder = pathlib.Path(self.enterContext(tempfile.TemporaryDirectory()))
+        shutil.copytree(self.made, self.folder, ignore=shutil.ignore_patterns("*.control"), dirs_exist_ok=True)
+        self.log, self.counts = self.folder / "log", self.folder / "log.counts"
 
     def again(self, *words, **named):
         """It goes on, without a snapshot of its own but at an orderly end."""
-        return self.running.goes_on(self, *NEVER, *words, **named)
+        return Saved(self, "--resume", *NEVER, *words, **{"folder": self.folder, **named})
 
     def newest(self):
-        return pathlib.Path(max(self.running.snapshots().items())[1])
+        return pathlib.Path(max(snapshots_in(self.folder).items())[1])
 
 
 class GoesOn(unittest.TestCase):
@@ -128,7 +136,7 @@ class GoesOn(unittest.TestCase):
     def test_random_moments(self):
         """Killed at any moment, a front goes on as it does where the whole log is played, and knows all that was answered."""
         chance = random.Random(5)
-        for place in range(12):
+        for place in range(9):
             running = Saved(self, *OFTEN, changes=("slow",) if place % 3 == 2 else ())
             station, count = running.station(), chance.randint(1, 60)
             given = ["vec " + VECTORS[4].words(IMSI).partition(" ")[2], OTHER_SUB] if place % 2 else []
@@ -284,7 +292,7 @@ class Refused(Standing):
         again = self.again(*words)
         self.assertRegex(again.told.decode(), re.escape("%s isn't taken: " % newest) + told)
         self.assertEqual(again.told.count(b"isn't taken"), 1)
-        self.assertEqual(again.state()[0], self.heard)
+        self.assertEqual(again.state()[0], self.HEARD)
         again.killed()
 
     def test_damaged(self):
@@ -323,11 +331,11 @@ class Refused(Standing):
         self.assertEqual(running.stop()[0], 0)
         again = self.again()
         self.assertIn("the library doesn't take it: version 2: a snapshot of another version", again.told.decode())
-        self.assertEqual(again.state()[0], self.heard)
+        self.assertEqual(again.state()[0], self.HEARD)
 
     def test_of_another_provisioning(self):
         """The subscribers' file has other lines than the snapshots, and than the log."""
-        status, told = self.running.told_at_start(self, head=PROVISIONED.replace("0a000001", "0a000009"))
+        status, told = self.again(head=PROVISIONED.replace("0a000001", "0a000009")).ended()
         self.assertEqual(status, 2)
         self.assertEqual(told.count("it is of another provisioning: the subscribers' file has to begin with its 6 lines"), 2)
         self.assertIn("log begins with other lines than", told)
@@ -335,10 +343,10 @@ class Refused(Standing):
     def test_of_another_log(self):
         """Snapshots that stand beside another log aren't its own."""
         other = Saved(self, *NEVER)
-        self.running.folder.joinpath("log.used").unlink()
+        self.folder.joinpath("log.used").unlink()
         other.says(1, other.station())
         other.killed()
-        for path in self.running.snapshots().values():
+        for path in snapshots_in(self.folder).values():
             shutil.copy(path, other.folder)
         again = other.goes_on(self, *NEVER)
         self.assertEqual(again.told.count(b"doesn't have its place: it is of another log"), 2)
@@ -346,18 +354,18 @@ class Refused(Standing):
 
     def test_without_its_log(self):
         """Without a log nothing is begun but by --anew, and then the snapshots are put away with what is left."""
-        for path in self.running.folder.glob("log.counts*"):
+        for path in self.folder.glob("log.counts*"):
             path.unlink()
-        status, told = self.running.told_at_start(self)
+        status, told = self.again().ended()
         self.assertEqual(status, 2)
         self.assertIn("log.counts: No such file or directory", told)
         again = self.again("--anew", "--keep", "2")
         self.assertEqual((again.state()[0], again.snapshots()), (0, {}))
-        self.assertEqual(len(list(self.running.folder.glob("log.1.snapshot.*"))), 2)
+        self.assertEqual(len(list(self.folder.glob("log.1.snapshot.*"))), 2)
 
     def test_a_log_that_is_cut(self):
         """A log that ends before the newest snapshot lacks what was answered: nothing goes on, and not with the older one."""
-        counts = pathlib.Path(str(self.running.log) + ".counts")
+        counts = self.counts
         octets = counts.read_bytes()
         marks = [found.start() for found in re.finditer(rb"(?m)^# snapshot \d+ ", octets)]
         about = snapshots.read(self.newest()).about
@@ -365,7 +373,7 @@ class Refused(Standing):
         self.assertIn(place, marks)
         for end in (place, place + 5, place + len(snapshots.mark_line(about["number"], about["mark"]))):
             os.truncate(counts, end)
-            status, told = self.running.told_at_start(self)
+            status, told = self.again().ended()
             self.assertEqual(status, 2)
             self.assertIn("log ends before %s was made: something is missing in it" % self.newest(), told)
             counts.write_bytes(octets)
@@ -388,7 +396,7 @@ class Refused(Standing):
         counts = pathlib.Path(str(running.log) + ".counts")
         text = counts.read_text()
         counts.write_text(text[:text.rindex("# settled until")] if "in 0 f800" in text[text.rindex("# resumed"):] else text)
-        status, told = running.told_at_start(self)
+        status, told = self.again().ended()
         self.assertEqual(status, 2)
         self.assertRegex(told, "has no challenge of 1 vector that|has no line that ends where|something is missing in it")
 
@@ -403,10 +411,10 @@ class Refused(Standing):
 
     def test_two_fronts(self):
         """A second front doesn't begin, also while the first saves; once that is killed in the midst of it, the next one begins."""
-        running = self.running.goes_on(self, *OFTEN, changes=("slow",))
+        running = Saved(self, "--resume", *OFTEN, changes=("slow",), folder=self.folder)
         new, station = pathlib.Path(str(running.log) + saving.END), running.station()
         running.until(lambda: station.says(REMEMBERED) and new.exists())
-        status, told = self.running.told_at_start(self)
+        status, told = self.again().ended()
         self.assertEqual((status, "another front has this log" in told), (75, True))
         running.until(lambda: station.says(REMEMBERED) and new.exists())
         heard = running.state()[0]
