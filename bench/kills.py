@@ -22,9 +22,9 @@ random moments and begun with --resume. From what stations are sent, and with th
   anew         SIGKILL; the next run is begun without --resume
 Where a front refuses to begin over something that is wrong, that is put right, and it has to begin then.
 
-With --gives, phones are given vectors meanwhile, whose lines stand at the end of the file of subscribers before. Words after `--` are
-the front's, such as `--snapshot 0.005,0.01`, by which the MME is saved some three times a second. The seed chooses what is done and after how many messages the front is ended; how far the front
-has come by then depends on the machine. Prints what was counted, and each violation with its octets; the status is 1 where there is
+With --gives, phones are given vectors meanwhile, whose lines stand at the end of the file of subscribers before. Words after `--`
+are the front's, such as `--snapshot 0.005,0.01`, by which the MME is saved every second or so. The seed chooses what is done and
+after how many messages the front is ended; how far the front has come by then depends on the machine. Prints what was counted, and each violation with its octets; the status is 1 where there is
 one.
 """
 import argparse

@@ -464,8 +464,8 @@ class Snapshots(unittest.TestCase):
         talk.settle()
 
     def test_lives(self):
-        """A phone that is registered, idle or connected, one in the midst of its attach, and one that was given a vector since, each
-        after an orderly end and after a kill: and nothing is played that stands before the snapshot."""
+        """A phone that is registered, and one that attached and was given a vector since the snapshot, after an orderly end and
+        after a kill."""
         first, second = self.phones
         withheld = self.lines_of(second)[-1:]
         running, talk = self.begin(*NEVER, withheld=withheld)

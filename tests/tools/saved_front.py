@@ -2,9 +2,9 @@
 """A front whose MME is in its own process, takes further subscribers and vectors and can be saved, and isn't the library's:
 saved_front.py [CHANGE ..] run WORD ..
 
-It knows who is provisioned and which stations are up, and sends each message of a station back. Of these messages it does more: f6 is
-counted; f8 with a slot after it is answered by a challenge of that subscriber with its next vector. `show` tells how many f6 it has
-counted, the seconds that have passed, and how many events this process of it was given. The changes:
+It knows who is provisioned and which stations are up, and sends each message of a station back. Of these messages it does more: f6
+is counted; f8 with a slot after it is answered by a challenge of that subscriber with its next vector. `show` tells how many f6 it
+has counted, the seconds that have passed, and how many events this process of it was given. The changes:
 
     slow       saving it takes a second
     large      it has parts of a mebibyte

@@ -1,5 +1,5 @@
-"""tools/front with an MME that can be saved: snapshots beside the log, and a run that goes on after one. The MME isn't the library's
-here, but saved_front.py; tests/library has that."""
+"""tools/front with an MME that can be saved: snapshots beside the log, and a run that goes on after one. The MME isn't the
+library's here, but saved_front.py; tests/library has that."""
 import collections
 import contextlib
 import os
@@ -219,7 +219,8 @@ class GoesOn(unittest.TestCase):
             station.says(REMEMBERED + bytes(18000))
         running.until(lambda: station.says(REMEMBERED) and 1 not in older_segments(str(running.log) + ".counts"))
         heard = running.state()[0]
-        self.assertIn(b"log.counts.segment.000001 is the oldest segment, and removed: a snapshot has what it led to", running.said())
+        self.assertIn(b"log.counts.segment.000001 is the oldest segment, and removed: a snapshot has what it led to",
+                      running.said())
         self.assertEqual(running.killed().goes_on(self, *NEVER).state()[0], heard)
 
     def test_segments_stay(self):
@@ -512,7 +513,8 @@ class Words(unittest.TestCase):
         folder = pathlib.Path(self.enterContext(tempfile.TemporaryDirectory()))
         (folder / "subscribers").write_text(HEAD)
         for words, told in (
-                (["--snapshot", "10,8"], "--snapshot goes with --library"), (["--snapshot", "no"], "--snapshot goes with --library"),
+                (["--snapshot", "10,8"], "--snapshot goes with --library"),
+                (["--snapshot", "no"], "--snapshot goes with --library"),
                 (["--snapshot-key", "x"], "--snapshot-key goes with --library"),
                 (["--library", "--snapshot", "10,8", "--log-keys", "no"], "--snapshot is of a log in files that keeps"),
                 (["--library", "--snapshot", "10,8", "--store", "http://127.0.0.1:1"], "--snapshot is of a log in files"),
@@ -538,8 +540,8 @@ class Words(unittest.TestCase):
         self.assertEqual((done.returncode, b"has no snapshot" in done.stderr), (2, True))
         self.assertEqual(running.stop()[0], 0)
         done = tools.ran("front", "snapshot", running.log)
-        self.assertRegex(done.stdout.decode(), r"^snapshot 1 made=\d{4}-\d\d-\d\dT[0-9:.]+ by=\S+ seal=sha256 subscribers=1 lines=6 "
-                         r"vectors_used=1 stations=- counts=1:\d+ happened=1:\d+ mme_octets=\d+\n$")
+        self.assertRegex(done.stdout.decode(), r"^snapshot 1 made=\d{4}-\d\d-\d\dT[0-9:.]+ by=\S+ seal=sha256 subscribers=1 "
+                         r"lines=6 vectors_used=1 stations=- counts=1:\d+ happened=1:\d+ mme_octets=\d+\n$")
         octets = pathlib.Path(running.snapshots()[1]).read_bytes()
         os.truncate(running.snapshots()[1], len(octets) - 1)
         done = tools.ran("front", "snapshot", running.log)

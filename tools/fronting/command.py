@@ -332,8 +332,8 @@ def add_log(words):
     words.add_argument("--segments", type=whole(2, 10000), default=limits.SEGMENTS, metavar="N",
                        help="how many segments of LOG to keep, and of LOG.counts; default %d" % limits.SEGMENTS)
     words.add_argument("--snapshot", metavar="MINUTES,MIB", type=snapshot_of,
-                       help="with --library: save the MME beside the log, after so many minutes, or MiB of LOG.counts; default %d,%d; "
-                       "`no` for none" % (limits.SNAPSHOT_MINUTES, limits.SNAPSHOT_MIB))
+                       help="with --library: save the MME beside the log, after so many minutes, or MiB of LOG.counts; default "
+                       "%d,%d; `no` for none" % (limits.SNAPSHOT_MINUTES, limits.SNAPSHOT_MIB))
     words.add_argument("--snapshot-key", metavar="FILE",
                        help="with --library: a key of 16 octets or more that seals snapshots; without it, who can write the folder "
                        "can plant phones; default the service's credential `%s`, if there is one" % SNAPSHOT_KEY)
@@ -357,6 +357,21 @@ def add_store(words):
     words.add_argument("--store-cert", metavar="FILE", help="the front's own certificate and its key, by https")
     words.add_argument("--store-user", metavar="NAME", help="a user of etcd")
     words.add_argument("--store-password", metavar="FILE", help="a file whose first line is that user's password")
+
+
+def add_of_logs(ways, form):
+    """The ways that are of a log alone."""
+    filling = ways.add_parser("fill", help="print a log without keys with the keys of a file", **form)
+    filling.add_argument("vectors", metavar="VECTORS", help="a file with the lines vec, such as SUBSCRIBERS")
+    filling.add_argument("log", metavar="LOG", help="the log, with its earlier segments")
+    filling.add_argument("--head", action="store_true",
+                         help="print the lines that were given while the front ran (`#+ `) in the log's head, and say which lines "
+                         "are answered otherwise then")
+    filling.set_defaults(act=fill)
+    telling = ways.add_parser("snapshot", help="tell what the snapshots of a log have, without keys", **form)
+    telling.add_argument("log", metavar="LOG", help="the log")
+    telling.add_argument("--snapshot-key", metavar="FILE", help="the key that they are sealed by")
+    telling.set_defaults(act=snapshot)
 
 
 def parser(description):
@@ -389,17 +404,7 @@ def parser(description):
     asking.add_argument("--json", action="store_true", help="print stations, phones and counters as JSON")
     asking.add_argument("--wait", type=seconds, default=0.0, metavar="SECONDS", help="wait for a front that is still starting")
     asking.set_defaults(act=ask)
-    filling = ways.add_parser("fill", help="print a log without keys with the keys of a file", **form)
-    filling.add_argument("vectors", metavar="VECTORS", help="a file with the lines vec, such as SUBSCRIBERS")
-    filling.add_argument("log", metavar="LOG", help="the log, with its earlier segments")
-    filling.add_argument("--head", action="store_true",
-                         help="print the lines that were given while the front ran (`#+ `) in the log's head, and say which lines "
-                         "are answered otherwise then")
-    filling.set_defaults(act=fill)
-    telling = ways.add_parser("snapshot", help="tell what the snapshots of a log have, without keys", **form)
-    telling.add_argument("log", metavar="LOG", help="the log")
-    telling.add_argument("--snapshot-key", metavar="FILE", help="the key that they are sealed by")
-    telling.set_defaults(act=snapshot)
+    add_of_logs(ways, form)
     return words
 
 

@@ -205,8 +205,8 @@ def entries_of(text):
 
 
 class Standing:
-    """A log that stands: its head, what counts from its beginning, the octet `start` of segment `first`, and what happened since that
-    was settled."""
+    """A log that stands: its head, what counts from its beginning, the octet `start` of segment `first`, and what happened since
+    that was settled."""
 
     make = None  # what makes the MME that is to play it, where that isn't one with nothing before the head
 

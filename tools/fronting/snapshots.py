@@ -9,8 +9,8 @@ LOG.snapshot.000001 and so on are such files. Each has
                             the parts of the MME
                             32 octets: SHA-256 of all before, or HMAC-SHA-256 by the front's key
 
-What counts of the log has a line `# snapshot NUMBER MARK` where the snapshot is of; the lines after it came later. MARK is a number that
-is drawn for each snapshot, so a line of another log isn't taken for it.
+What counts of the log has a line `# snapshot NUMBER MARK` at that moment; the lines after it came later. MARK is a number that is
+drawn for each snapshot, so a line of another log isn't taken for it.
 """
 import array
 import hashlib
