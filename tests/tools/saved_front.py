@@ -11,9 +11,12 @@ has counted, the seconds that have passed, and how many events this process of i
     refusing   it can't be saved
     newer      it saves itself by a version that it doesn't take
 """
+import errno
 import json
+import os
 import pathlib
 import sys
+import threading
 import time
 import types
 
@@ -130,6 +133,13 @@ class StandIn:
         return made
 
 
+def alone(fork=os.fork):
+    """Forks, which the library doesn't allow a process with threads."""
+    if threading.active_count() > 1:
+        raise OSError(errno.EDEADLK, "the process has threads")
+    return fork()
+
+
 CHANGES = {"slow": ("is_slow", True), "large": ("is_large", True), "refusing": ("is_refusing", True), "newer": ("version", 2)}
 
 
@@ -138,6 +148,7 @@ if __name__ == "__main__":
         setattr(StandIn, *CHANGES[sys.argv.pop(1)])
     front.CARE_SECONDS = 0.05
     limits.SNAPSHOT_REST, limits.SNAPSHOT_SHARE, limits.SNAPSHOT_AGAIN, limits.SNAPSHOT_LEAST = 0.1, 0, 0.1, 1
+    os.fork = alone
     package = types.SimpleNamespace(Mme=StandIn, Refused=soizkadur.Refused, Refusal=Refusal)
     front.library = lambda: package
     sys.exit(command.main(""))

@@ -2,6 +2,7 @@
 library's here, but saved_front.py; tests/library has that."""
 import collections
 import contextlib
+import html
 import os
 import pathlib
 import random
@@ -17,8 +18,10 @@ import unittest.mock
 from reference import phones as PHONES
 from tests.tools import tools
 from tests.tools.fronted import HEAD, IMSI, LIBRARY, REMEMBERED, Running, said
+from tests.tools.test_front_etcd import Fronts, free_port
 from tests.tools.test_front_log import give
 from tools.fronting import limits, saving, snapshots
+from tools.fronting.restoring import NO_REASONS
 from tools.fronting.segments import SNAPSHOT, numbered, older_segments
 
 SAVED = tools.TOP / "tests" / "tools" / "saved_front.py"
@@ -235,6 +238,19 @@ class GoesOn(unittest.TestCase):
         self.assertEqual(told.count("no snapshot can be made, so that no segment of"), 1)
         self.assertEqual(min(older_segments(str(running.log) + ".counts")), 1)
         self.assertEqual(running.goes_on(self, *NEVER).state()[0], 130)
+
+    def test_page(self):
+        """The page says why it has no reasons, and raises an alarm where no snapshot can be made."""
+        running, port = Saved(self, *NEVER), free_port()
+        running.says(3, running.station())
+        self.assertEqual(running.stop()[0], 0)
+        again = running.goes_on(self, *OFTEN, "--page", "127.0.0.1:%d" % port, changes=("refusing",))
+        page = lambda: " ".join(html.unescape(Fronts.get(port, "/").decode()).split())
+        self.assertIn(NO_REASONS, page())
+        station = again.station()
+        again.until(lambda: station.says(REMEMBERED) and b"no snapshot can be made" in again.said())
+        again.until(lambda: "No snapshot can be made: the MME can't be saved." in page())
+        self.assertIn(b'{of="snapshots"} 1', Fronts.get(port, "/metrics"))
 
     def test_moved(self):
         """Where what counts is moved away, the next snapshot is made at once, after which the run can go on again."""

@@ -231,7 +231,7 @@ class Saving:
         status = os.waitstatus_to_exitcode(status)
         if status:
             remove(self.path)
-            self.has_fault(os.strerror(status) if 0 < status < REFUSED else "it ended with status %d" % status)
+            self.has_fault(why_ended(status))
         else:
             self.written = moment
 
@@ -330,6 +330,13 @@ class Saving:
             self.let_go()
         if self.rule:
             remove(self.path)
+
+
+def why_ended(status):
+    """Why a child made none, by its status."""
+    if status == REFUSED:
+        return "the MME can't be saved"
+    return os.strerror(status) if status > 0 else "its process was ended by signal %d" % -status
 
 
 def remove(path):
