@@ -34,7 +34,7 @@ from tools.fronting import limits, snapshots
 from tools.fronting.segments import SNAPSHOT, numbered, older_segments
 
 SETUP_REQUEST = bytes.fromhex("0011001f000003003b00080000f11000000010004000070000004000f1100089400140")
-TIMES = re.compile(r"(?m)^(?:# time|# segment|# settled|tick) .*\n|(?<= port )\d+")
+TIMES = re.compile(r"(?m)^(?:# time|# segment|# settled|# snapshot|tick) .*\n|(?<= port )\d+")
 BUILT = fronted.PROGRAM.exists()
 OFTEN, NEVER = ("--snapshot", "0.005,0.005"), ("--snapshot", "1440,4096")  # some three a second; at an orderly end alone
 NOT_BUILT = "the program isn't built (./mme --prove)"
@@ -496,7 +496,7 @@ class Snapshots(unittest.TestCase):
     def test_without_the_beginning(self):
         """Where the log has no beginning any more, phones are served after the snapshot all the same."""
         first, second = self.phones
-        running, talk = self.begin(*OFTEN)
+        running, talk = self.begin(*OFTEN, "--segments", "10000")
         for phone, number in ((first, 1), (second, 2)):
             phone.attaches(self.station, number)
             phone.is_released()
@@ -531,7 +531,7 @@ class Storms(test_front_kills.Storms):
         self.assertEqual(violations, [], said)
         self.assertEqual([name for name in (*test_front_kills.DONE, "vectors given") if not counted[name]], [], said)
         self.assertEqual(counted["beginnings that went on"], 10, said)
-        self.assertGreater(counted["snapshots"], 5, said)
+        self.assertGreater(counted["snapshots"], 1, said)
 
 
 class PowerCuts(test_front_power.PowerCuts):

@@ -234,9 +234,9 @@ class GoesOn(unittest.TestCase):
         for _ in range(130):
             station.says(REMEMBERED + bytes(18000))
         running.until(lambda: len(older_segments(str(running.log) + ".counts")) > 2)
-        told = running.killed().told.decode()
-        self.assertEqual(told.count("no snapshot can be made, so that no segment of"), 1)
-        self.assertEqual(min(older_segments(str(running.log) + ".counts")), 1)
+        status, told = running.stop()
+        self.assertEqual((status, told.count("no snapshot can be made, so that no segment of")), (0, 1))
+        self.assertEqual((min(older_segments(str(running.log) + ".counts")), running.snapshots()), (1, {}))
         self.assertEqual(running.goes_on(self, *NEVER).state()[0], 130)
 
     def test_page(self):
@@ -379,6 +379,14 @@ class Refused(Standing):
         again = self.again("--anew", "--keep", "2")
         self.assertEqual((again.state()[0], again.snapshots()), (0, {}))
         self.assertEqual(len(list(self.folder.glob("log.1.snapshot.*"))), 2)
+
+    def test_without_its_segment(self):
+        """Where the segments are gone that a start needs, each snapshot says so, and nothing goes on."""
+        text = self.counts.read_text()
+        self.counts.write_text("# segment 9, begun later\n" + text[text.rindex("# settled until"):])
+        status, told = self.again().ended()
+        self.assertEqual((status, told.count("log that it stands in is gone")), (2, 2))
+        self.assertIn("log.counts isn't whole: its segments are 9", told)
 
     def test_a_log_that_is_cut(self):
         """A log that ends before the newest snapshot lacks what was answered: nothing goes on, and not with the older one."""

@@ -24,6 +24,7 @@ from tools.fronting.used import vector_of
 
 END = ".snapshot.new"  # of the name of one that isn't whole yet
 REFUSED = 200  # the status of a child whose MME refuses to be saved; another one but 0 is the number of a fault of the system
+NOT_SAVED = "the MME can't be saved"
 MOST_FILES = 1 << 20
 PER_SUBSCRIBER, PER_VECTOR, LEAST = 300, 120, 1 << 16  # octets that a snapshot has at the most, but for rare states
 KEPT = 2  # snapshots
@@ -112,12 +113,9 @@ class Saving:
     # When one is made.
 
     def care(self, now):
-        """Looks whether one is due, or waits for its name."""
-        if not self.rule or self.journal is None:
-            return
-        if self.written is not None:
-            self.settle(now)
-        elif self.pid is None and self.until is None and now >= self.again and self.is_due(now):
+        """Looks whether one is due, where none is under way."""
+        is_free = self.pid is None and self.written is None and self.until is None and now >= self.again
+        if self.rule and self.journal is not None and is_free and self.is_due(now):
             self.until = now + limits.SNAPSHOT_HOLD
 
     def is_due(self, now):
@@ -126,7 +124,10 @@ class Saving:
         return count >= octets or now - self.saved_at >= seconds and count >= limits.SNAPSHOT_LEAST
 
     def look(self):
-        """Makes one that is due, once all that the MME was given is answered and kept; it is given no more until then."""
+        """Makes one that is due, once all that the MME was given is answered and kept; it is given no more until then. One that
+        was made gets its name."""
+        if self.written is not None and self.journal is not None:
+            self.settle(time.monotonic())
         if self.until is None:
             return
         exchange, now = self.front.exchange, time.monotonic()
@@ -315,11 +316,10 @@ class Saving:
                 os.close(file)
             os.replace(self.path, name_of(self.front.settings.log, moment.number))
             sync_path(folder_of(self.path))
-        except OSError as fault:
+            self.has_name(moment, None)
+        except (OSError, self.front.package.Refused) as fault:
             remove(self.path)
-            self.has_fault(told(fault))
-            return
-        self.has_name(moment, None)
+            self.has_fault(told(fault) if isinstance(fault, OSError) else NOT_SAVED)
 
     def stop(self):
         """Ends a child that saves, and what it wrote."""
@@ -335,7 +335,7 @@ class Saving:
 def why_ended(status):
     """Why a child made none, by its status."""
     if status == REFUSED:
-        return "the MME can't be saved"
+        return NOT_SAVED
     return os.strerror(status) if status > 0 else "its process was ended by signal %d" % -status
 
 

@@ -36,6 +36,7 @@ PLAIN, KEYED = "sha256", "hmac-sha256"
 PIECE = 1 << 20  # octets that are written and read at once
 DAMAGED = "it is damaged or cut"
 ALIEN = "%s doesn't have its place: it is of another log"
+GONE = "the segment of %s that it stands in is gone"
 CUT = "%s ends before %s was made: something is missing in it"
 
 
@@ -203,6 +204,8 @@ class Snapshot:
             at = counts[other].find(line, start)
             if at >= 0:
                 return other, at + len(line)
+        if number < min(counts):
+            raise Unfit(GONE % log)
         own = {str(number): hashlib.sha256(own_line(octets)[0]).hexdigest() for number, octets in counts.items()}
         if own.items() & self.about["segments"].items():
             raise NoResume(CUT % (log, name))
