@@ -16,9 +16,9 @@ import unittest
 import unittest.mock
 
 from reference import phones as PHONES
-from tests.tools import tools
+from tests.tools import test_front_etcd, tools
 from tests.tools.fronted import HEAD, IMSI, LIBRARY, REMEMBERED, Running, said
-from tests.tools.test_front_etcd import Fronts, free_port
+from tests.tools.test_front_etcd import free_port
 from tests.tools.test_front_log import give
 from tools.fronting import limits, saving, snapshots
 from tools.fronting.restoring import NO_REASONS
@@ -245,12 +245,12 @@ class GoesOn(unittest.TestCase):
         running.says(3, running.station())
         self.assertEqual(running.stop()[0], 0)
         again = running.goes_on(self, *OFTEN, "--page", "127.0.0.1:%d" % port, changes=("refusing",))
-        page = lambda: " ".join(html.unescape(Fronts.get(port, "/").decode()).split())
+        page = lambda: " ".join(html.unescape(test_front_etcd.Fronts.get(port, "/").decode()).split())
         self.assertIn(NO_REASONS, page())
         station = again.station()
         again.until(lambda: station.says(REMEMBERED) and b"no snapshot can be made" in again.said())
         again.until(lambda: "No snapshot can be made: the MME can't be saved." in page())
-        self.assertIn(b'{of="snapshots"} 1', Fronts.get(port, "/metrics"))
+        self.assertIn(b'{of="snapshots"} 1', test_front_etcd.Fronts.get(port, "/metrics"))
 
     def test_moved(self):
         """Where what counts is moved away, the next snapshot is made at once, after which the run can go on again."""
