@@ -25,7 +25,7 @@ from tools.fronting.used import vector_of
 END = ".snapshot.new"  # of the name of one that isn't whole yet
 REFUSED = 200  # the status of a child whose MME refuses to be saved; another one but 0 is the number of a fault of the system
 NOT_SAVED = "the MME can't be saved"
-MOST_FILES = 1 << 20
+MOST_FILES, NICE = 1 << 20, 19  # the front goes before its child
 PER_SUBSCRIBER, PER_VECTOR, LEAST = 300, 120, 1 << 16  # octets that a snapshot has at the most, but for rare states
 KEPT = 2  # snapshots
 
@@ -214,6 +214,8 @@ class Saving:
             signal.set_wakeup_fd(-1)
             for number in (signal.SIGINT, signal.SIGHUP, signal.SIGTERM):
                 signal.signal(number, signal.SIG_IGN)
+            with contextlib.suppress(PermissionError):  # of a service that may not
+                os.nice(NICE)
             os.dup2(file, 0)
             os.closerange(1, limit)
             self.save(0, moment)
