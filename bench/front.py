@@ -2,7 +2,7 @@
 """What tools/front takes: messages a second through it, and the time from a message to its answer.
 
     front.py [PROGRAM | --library] [--only WORD ..] [--stations N ..] [--seconds N] [--rounds N] [--rate N] [--beside CLONE ..]
-             [--folder FOLDER] [--etcd]
+             [--folder FOLDER] [--etcd] [--lines N] [--vectors N]
 
 WORD is one of these, and all of them where none is given:
   throughput  stations that each keep messages under way, as many as go; and the processor time of a message: the best of the
@@ -14,6 +14,9 @@ WORD is one of these, and all of them where none is given:
               clients of the page, of all manners (browsers.py)
   give        with --library: vectors one by one, after a log of as many messages as go; then all subscribers that an MME takes, and
               eight vectors of each, while one station sends 100 messages a second
+  restart     with --library: 32,768 registered phones after a log of ten million lines (--lines), each phone with --vectors
+              more: the start that plays the whole log, one after an orderly end, one after a kill; and what stations that together
+              send 1,000 messages a second (--rate) wait while snapshots are made one after the other
   standby     with --etcd: stations that together send 5,000 messages a second (--rate) to a leader, which is then killed: how far
               the front that stands by lags, and when it answers
 
@@ -34,6 +37,7 @@ import os
 import pathlib
 import re
 import select
+import signal
 import socket
 import subprocess
 import sys
@@ -43,7 +47,7 @@ import time
 sys.dont_write_bytecode = True
 if __name__ == "__main__":
     sys.path[0] = str(pathlib.Path(__file__).resolve().parent.parent)
-from bench import etcds
+from bench import attaches as attached, etcds
 from reference import lte, phones
 
 TOP = pathlib.Path(__file__).resolve().parent.parent
@@ -58,6 +62,8 @@ PAGED_RATE, PAGED_STATIONS, SUBSCRIBERS, CLIENTS = 1000, 20, 32768, 64
 ALONE, VECTORS = 30, 8  # vectors that are given by themselves, and of each subscriber
 TICKS = os.sysconf("SC_CLK_TCK")
 AT_WILL = ("--rate", "1000000")
+ONE_AFTER_THE_OTHER, NO_MORE = ("--snapshot", "0.01,0.01"), ("--snapshot", "1440,4096")
+SEVERAL_SECONDS = 20  # in which several snapshots are made
 LIBRARY = object()  # in a program's place: the MME in the front's own process
 FRONT = TOP / "tools" / "front"
 Way = collections.namedtuple("Way", "name front words")  # a front that is measured, and its words
@@ -66,11 +72,12 @@ Way = collections.namedtuple("Way", "name front words")  # a front that is measu
 class Front:
     """A front that runs."""
 
-    def __init__(self, program, head, *words, front=FRONT, folder=None):
+    def __init__(self, program, head, *words, front=FRONT, folder=None, room=None):
         mme = ("--library",) if program is LIBRARY else ("--mme", program)
-        self.folder = tempfile.TemporaryDirectory(dir=folder)
-        folder = pathlib.Path(self.folder.name)
-        (folder / "subscribers").write_text(head)
+        self.folder = contextlib.nullcontext() if room else tempfile.TemporaryDirectory(dir=folder)
+        folder = room or pathlib.Path(self.folder.name)
+        if head is not None:
+            (folder / "subscribers").write_text(head)
         self.process = subprocess.Popen(
             [sys.executable, front, "run", folder / "subscribers", folder / "log", "--tcp", "--port", "0",
              "--per-address", "128", "--setup-seconds", "3600", *mme, *words], stderr=subprocess.PIPE, text=True)
@@ -120,11 +127,12 @@ class Front:
             found.append((int(fields[11]) + int(fields[12])) / TICKS)
         return found
 
-    def close(self):
-        self.process.terminate()
+    def close(self, number=signal.SIGTERM):
+        self.process.send_signal(number)
         self.process.wait()
         self.process.stderr.close()
-        self.folder.cleanup()
+        if isinstance(self.folder, tempfile.TemporaryDirectory):
+            self.folder.cleanup()
 
 
 class Station:
@@ -389,6 +397,74 @@ def page(given):
     front.close()
 
 
+def restart(given):
+    """Each start goes on after the one before, over one log."""
+    if given.program is not LIBRARY:
+        print("restart: the program isn't saved (--library)")
+        return
+    with tempfile.TemporaryDirectory(dir=given.folder) as name:
+        room = pathlib.Path(name)
+        lines = long_log(room, given)
+        print("| start, %d registered phones | lines played | seconds until it serves |\n|---|---|---|" % SUBSCRIBERS)
+        started(room, "the whole log is played", lines).close()
+        front = started(room, "after an orderly end", 0)
+        load = Load(front.port, PAGED_STATIONS)
+        count = len(load.at_will(given.seconds))
+        load.close()
+        front.close(signal.SIGKILL)
+        front = started(room, "after a kill", count)
+        front.close()
+        served_while_it_saves(given, room)
+
+
+def long_log(room, given):
+    """A log in which all subscribers attach and are released, and data waits for each again and again; how many lines it has."""
+    trace, station, made = attached.provisioned(SUBSCRIBERS, 1 + given.vectors)
+    for phone in made:
+        phone.attaches(station, phone.slot + 1)
+        phone.is_released()
+    head = [line for line in trace.lines if line.startswith(("mme ", "sub ", "vec "))]
+    begun = "".join(line + "\n" for line in [*head, "# segment 1, begun for a measure"])
+    (room / "subscribers").write_text("".join(line + "\n" for line in head))
+    (room / "log").write_text(begun)
+    events, each = trace.lines[len(head):], "".join("data %s\n" % phone.imsi for phone in made)
+    with open(room / "log.counts", "w", encoding="ascii") as counts:
+        counts.write(begun + "".join(line + "\n" for line in events))
+        rounds = max(0, given.lines - len(events)) // len(made)
+        for _ in range(rounds):
+            counts.write(each)
+        counts.write("# settled until segment 1, octet 0\n")
+    return len(events) + rounds * len(made)
+
+
+def started(room, what, lines, *words):
+    """A front that goes on, and in a row of the table how long that took."""
+    begin = time.perf_counter()
+    front = Front(LIBRARY, None, *AT_WILL, "--resume", "--answer-seconds", "3600", *(words or NO_MORE), room=room)
+    print("| %s | %d | %.2f |" % (what, lines, time.perf_counter() - begin), flush=True)
+    return front
+
+
+def served_while_it_saves(given, room):
+    """What stations wait for answers without snapshots, and with one after the other."""
+    rate = given.rate or PAGED_RATE
+    rows = ["| %d messages a second | snapshots | answered | median, ms | 99 of 100 within, ms | the last, ms | memory, MiB |"
+            % rate, "|---|---|---|---|---|---|---|"]
+    for what, words in (("none", NO_MORE), ("one after the other", ONE_AFTER_THE_OTHER)):
+        front = started(room, "for " + what, 0, *words)
+        load = Load(front.port, PAGED_STATIONS)
+        load.paced(rate, 2)
+        before = front.counters().get("snapshot", {"number": 0})["number"]
+        times = load.paced(rate, SEVERAL_SECONDS)
+        told = front.counters().get("snapshot", {"number": before, "seconds": 0, "octets": 0})
+        rows.append("| %s | %d of %d octets, the last in %.2f s | %d | %.2f | %.2f | %.2f | %.0f |" % (
+            what, told["number"] - before, told["octets"], told["seconds"], len(times), share(times, 0.5), share(times, 0.99),
+            share(times, 1), front.memory() / (1 << 20)))
+        load.close()
+        front.close()
+    print("\n".join(rows))
+
+
 def standby(given):
     """The leader's load is a process of its own. A lag is the time from when the leader said how far it was until the other one
     said that it is there."""
@@ -455,7 +531,8 @@ def main():
     mmes = words.add_mutually_exclusive_group()
     mmes.add_argument("program", metavar="PROGRAM", nargs="?", default=TOP / "crates" / "mme" / "out" / "mme")
     mmes.add_argument("--library", action="store_true")
-    measures = {measure.__name__: measure for measure in (throughput, latency, flood, attaches, page, give, standby)}
+    measures = {measure.__name__: measure for measure in (
+        throughput, latency, flood, attaches, page, give, restart, standby)}
     words.add_argument("--only", nargs="+", choices=measures, default=list(measures))
     words.add_argument("--stations", nargs="+", type=int, default=[1, 10, 100])
     words.add_argument("--seconds", type=float, default=5.0)
@@ -464,6 +541,8 @@ def main():
     words.add_argument("--beside", nargs="+", metavar="CLONE", type=pathlib.Path, default=[])
     words.add_argument("--folder", type=pathlib.Path)
     words.add_argument("--etcd", action="store_true")
+    words.add_argument("--lines", type=int, default=10000000)
+    words.add_argument("--vectors", type=int, default=8)
     given = words.parse_args()
     given.ways = [Way("--sync " + sync, FRONT, ("--sync", sync)) for sync in ("yes", "no")]
     given.ways += [Way("of " + clone.name, clone / "tools" / "front", ()) for clone in given.beside]

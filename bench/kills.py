@@ -1,7 +1,8 @@
 #!/usr/bin/env python3
 """A storm of phones while tools/front is killed and begun again, again and again: does it ever use anything twice?
 
-    kills.py [--mme PROGRAM | --library] [--seconds N | --runs N] [--phones N] [--seed N] [--sctp] [--ends WORD ..] [-- WORD ..]
+    kills.py [--mme PROGRAM | --library [--gives]] [--seconds N | --runs N] [--phones N] [--seed N] [--sctp] [--ends WORD ..]
+             [-- WORD ..]
 
 Phones attach, sleep, come back for service or to update their area, are paged, change stations and detach. The front is ended at
 random moments and begun with --resume. From what stations are sent, and with the keys that phones have, these are checked:
@@ -21,8 +22,9 @@ random moments and begun with --resume. From what stations are sent, and with th
   anew         SIGKILL; the next run is begun without --resume
 Where a front refuses to begin over something that is wrong, that is put right, and it has to begin then.
 
-Words after `--` are the front's. The seed chooses what is done and after how many messages the front is ended; how far the front
-has come by then depends on the machine. Prints what was counted, and each violation with its octets; the status is 1 where there is
+With --gives, phones are given vectors meanwhile, whose lines stand at the end of the file of subscribers before. Words after `--`
+are the front's, such as `--snapshot 0.005,0.01`, by which the MME is saved every second or so. The seed chooses what is done and
+after how many messages the front is ended; how far the front has come by then depends on the machine. Prints what was counted, and each violation with its octets; the status is 1 where there is
 one.
 """
 import argparse
@@ -43,6 +45,7 @@ from bench import ends, lives, replays, watch, wire
 from reference import phones
 
 STATIONS = 4
+GIVEN, MOST_LEFT = 0.05, 40  # the share of turns in which a phone is given a vector; of how many it isn't given one more
 PAGED = 0.1  # the share of phones asleep that data come for, before they do anything by themselves
 AT_ONCE = 8  # phones that begin something at a time
 WHOLE_ATTACHES = 2  # that are sent again after each beginning
@@ -159,6 +162,8 @@ class Storm:
     def act(self):
         """Some phones do something, and what comes is heard."""
         radio, now = self.radio, time.monotonic()
+        if self.given.gives and self.chance.random() < GIVEN and self.run.may_give():
+            self.give(self.chance.choice(radio.phones))
         free = [phone for phone in radio.phones if phone.is_free]
         for phone in self.chance.sample(free, min(len(free), AT_ONCE)):
             if phone.is_asleep and self.chance.random() < PAGED:
@@ -170,6 +175,19 @@ class Storm:
                 phone.gives_up()
         radio.turn(0.01)
 
+    def give(self, phone):
+        """A phone is given a vector, unless it has many."""
+        if len(phone.vectors) - len(phone.rands) > MOST_LEFT:
+            return
+        vector = phones.Vector.made("kills %d" % next(self.names))
+        line = vector.words(phone.imsi)
+        with open(self.folder / "subscribers", "a", encoding="ascii") as subscribers:
+            subscribers.write(line + "\n")
+        phone.vectors.append(vector)
+        phone.by_rand[vector.rand] = vector
+        self.run.gives(line)
+        self.counted["vectors given"] += 1
+
     def close(self, number=signal.SIGKILL):
         """The run is over, or is ended."""
         if self.run is not None:
@@ -180,6 +198,8 @@ class Storm:
         self.close(number)
         self.radio.drain()
         self.counted["runs that went on without a log"] += ends.WITHOUT_LOG in self.run.said()
+        numbers = [int(path.suffix[1:]) for path in self.folder.glob("log.snapshot.*[0-9]")]
+        self.counted["snapshots"] = max([self.counted["snapshots"], *numbers])
 
     # After a beginning.
 
@@ -286,6 +306,7 @@ def parser(description=__doc__, of_storm=Storm):
     words.add_argument("--vectors", type=int, default=64, help="of a phone, up to 64; 64 where not given")
     words.add_argument("--seed", type=int, default=1, help="1 where not given")
     words.add_argument("--second", type=float, default=0.1, help="the length of a tick; 0.1 s where not given")
+    words.add_argument("--gives", action="store_true", help="phones are given vectors")
     words.add_argument("--sctp", action="store_true", help="by SCTP, in place of TCP")
     words.add_argument("--ends", nargs="+", choices=of_storm.ENDS, default=["kill"])
     words.add_argument("--folder", type=pathlib.Path, help="a folder for the log and what the front says, which stay; none that "

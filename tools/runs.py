@@ -196,11 +196,13 @@ def read_trace(octets, name="trace"):
     imsis, known, events, is_begun = [], set(), [], False
     if found := LATER_SEGMENT.match(octets):
         number = int(found[1])
-        raise Fault("%s: this is segment %d of a front's log, which goes on after %s: join them by `cat` in this order, it last" % (
-            name, number, earlier_segments(name, number)))
+        raise Fault("%s: this is segment %d of a front's log, which goes on after %s: join them by `cat` in this order, it last; "
+                    "if one is gone, tools/show alone reads the rest" % (name, number, earlier_segments(name, number)))
 
     def read(line, text):
         nonlocal is_begun
+        if is_begun and not events and text.startswith(b"vec ") and text.count(b" ") == PROVISIONING["vec"]:
+            return
         event = usual_event(line, text) if events else None
         if event:
             events.append(event)

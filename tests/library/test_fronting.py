@@ -9,6 +9,7 @@ import pathlib
 import re
 import runpy
 import shutil
+import signal
 import socket
 import statistics
 import subprocess
@@ -26,15 +27,17 @@ if __name__ == "__main__":
 from bench import gives, kills, wire
 from bench.etcds import MISSING, PROGRAM as ETCD, Members, free_port
 from reference import lte, phones as PHONES
-from tests.tools import fronted, test_front, test_front_etcd, test_front_keys, test_front_kills, test_front_log, test_front_sctp
-from tests.tools import tools
+from tests.tools import fronted, test_front, test_front_etcd, test_front_keys, test_front_kills, test_front_log, test_front_power
+from tests.tools import test_front_sctp, tools
 from tests.tools.test_front_log import Talk, give, whole
 from tools import runs
-from tools.fronting import limits
+from tools.fronting import limits, snapshots
+from tools.fronting.segments import SNAPSHOT, numbered, older_segments
 
 SETUP_REQUEST = bytes.fromhex("0011001f000003003b00080000f11000000010004000070000004000f1100089400140")
-TIMES = re.compile(r"(?m)^(?:# time|# segment|# settled|tick) .*\n|(?<= port )\d+")
+TIMES = re.compile(r"(?m)^(?:# time|# segment|# settled|# snapshot|tick) .*\n|(?<= port )\d+")
 BUILT = fronted.PROGRAM.exists()
+OFTEN, NEVER = ("--snapshot", "0.005,0.005"), ("--snapshot", "1440,4096")  # some three a second; at an orderly end alone
 NOT_BUILT = "the program isn't built (./mme --prove)"
 # Of gives: seconds for one line and for all that an MME takes, and for most messages of a station meanwhile; how many times as much
 # a machine with other work may take.
@@ -436,9 +439,105 @@ class Cost(unittest.TestCase):
         self.assertEqual((running.stop()[0], len(further(running, ".counts"))), (0, 294911))
 
 
+class Snapshots(unittest.TestCase):
+    """Phones at a front that goes on after a snapshot: what they are sent is what they are owed, octet by octet."""
+
+    setUp, lines_of, head = test_front_log.GivenToPhones.setUp, test_front_log.GivenToPhones.lines_of, GivenToPhones.head
+
+    def begin(self, *words, folder=None, withheld=(), more=()):
+        """A front, and the talk of the station, which is set up there."""
+        running = fronted.Running(self, *(["--resume"] if folder else []), *words, head=self.head(withheld, more),
+                                  program=fronted.LIBRARY, folder=folder)
+        talk = Talk(self, self.trace, running)
+        self.trace.set_up(self.station, connects=folder is None)
+        talk.settle()
+        return running, talk
+
+    def saved(self, running):
+        """The numbers of the snapshots that stand."""
+        return sorted(numbered(str(running.log), SNAPSHOT))
+
+    def is_served(self, phone, number, talk):
+        """A phone comes for service, and is released."""
+        phone.asks_for_service(self.station, number)
+        phone.context_is_set_up()
+        phone.is_released()
+        talk.settle()
+
+    def test_lives(self):
+        """A phone that is registered, and one that attached and was given a vector since the snapshot, after an orderly end and
+        after a kill."""
+        first, second = self.phones
+        withheld = self.lines_of(second)[-1:]
+        running, talk = self.begin(*NEVER, withheld=withheld)
+        first.attaches(self.station, 1)
+        talk.settle()
+        self.assertEqual(running.stop()[0], 0)
+        first.is_gone()
+        for path in running.folder.glob("log.counts.segment.*"):
+            path.unlink()
+        running, talk = self.begin(*NEVER, folder=running.folder, withheld=withheld)
+        self.assertNotIn(b"isn't taken", running.told)
+        self.is_served(first, 2, talk)
+        second.attaches(self.station, 3)
+        second.is_released()
+        talk.settle()
+        self.assertEqual(give(running, withheld[0] + "\n"), "given 0 subscribers, 1 vector\n")
+        running.process.kill()
+        running.ended()
+        self.assertEqual(self.saved(running), [1])
+        running, talk = self.begin(*NEVER, folder=running.folder, withheld=withheld, more=withheld)
+        self.assertIn("%s %s vectors_left=1\n" % (second.imsi, PHONES.IDLE), running.asks("phones"))
+        self.is_served(first, 4, talk)
+        self.is_served(second, 5, talk)
+        second.attaches(self.station, 6)
+        talk.settle()
+        self.assertEqual((running.stop()[0], self.saved(running)), (0, [1, 2]))
+
+    def test_without_the_beginning(self):
+        """Where the log has no beginning any more, phones are served after the snapshot all the same."""
+        first, second = self.phones
+        running, talk = self.begin(*OFTEN, "--segments", "10000")
+        for phone, number in ((first, 1), (second, 2)):
+            phone.attaches(self.station, number)
+            phone.is_released()
+        talk.settle()
+        for number in range(3, 40):
+            self.is_served(first, number, talk)
+            running.process.send_signal(signal.SIGHUP)
+            running.until(lambda number=number: len(older_segments(str(running.log) + ".counts")) >= number - 2)
+        running.until(lambda: len(self.saved(running)) == 2)
+        running.process.kill()
+        running.ended()
+        counts = older_segments(str(running.log) + ".counts")
+        needed = min(snapshots.read(path).about["counts"][0] for path in numbered(str(running.log), SNAPSHOT).values())
+        self.assertGreater(needed, 1)
+        for number in range(1, needed):
+            pathlib.Path(counts[number]).unlink()
+        running, talk = self.begin(*NEVER, folder=running.folder)
+        self.is_served(second, 50, talk)
+        self.is_served(first, 51, talk)
+        self.assertEqual(running.stop()[0], 0)
+
+
 class Storms(test_front_kills.Storms):
     """The front killed again and again under phones."""
     program = fronted.LIBRARY
+
+    def test_snapshots(self):
+        """Killed at random moments of attaches, gives and snapshots, a front goes on after the newest: nothing is used twice, and
+        who was registered still is, and is served."""
+        violations, counted, said = test_front_kills.storm(
+            self.program, "--runs", "10", "--gives", "--ends", "kill", "kill", "kill", "clean", "--", *OFTEN)
+        self.assertEqual(violations, [], said)
+        self.assertEqual([name for name in (*test_front_kills.DONE, "vectors given") if not counted[name]], [], said)
+        self.assertEqual(counted["beginnings that went on"], 10, said)
+        self.assertGreater(counted["snapshots"], 1, said)
+
+
+class PowerCuts(test_front_power.PowerCuts):
+    """A front that makes snapshots, and power cuts."""
+    program, words = fronted.LIBRARY, OFTEN
 
 
 class StormBySctp(test_front_sctp.Sctp):

@@ -12,7 +12,7 @@ import time
 
 from tools import runs, versions
 
-from tools.fronting import limits
+from tools.fronting import limits, snapshots
 from tools.fronting.etcd import access_of
 from tools.fronting.exchange import END, GO_ON, REFUSE
 from tools.fronting.faults import WRONG, told
@@ -30,6 +30,7 @@ from tools.fronting.used import LOG_END, UsedVectors
 S1AP_PORT = 36412  # TS 36.412 clause 7
 OF_PHONE, OF_FILE = ("data", "cancel", "show", "tunnel"), ("give",)
 OF_FRONT, OF_BOTH = ("stations", "phones", "counters"), ("health",)
+SNAPSHOT_KEY = "snapshot-key"  # the credential of a service that is the key of snapshots
 NAME = re.compile(r"(?=.{1,253}$)[a-z0-9_-]{1,63}(\.[a-z0-9_-]{1,63})*", re.IGNORECASE)  # of a machine
 
 
@@ -44,6 +45,7 @@ def run(given):
         if given.anew and not given.resume:
             raise runs.Fault("--anew goes with --resume")
         read_store(given)
+        read_snapshot(given)
         octets = runs.read_file(given.subscribers)
         given.subscribers = "standard input" if given.subscribers == "-" else given.subscribers
         head = read_head(octets, given.subscribers, given.code)
@@ -82,6 +84,32 @@ def read_store(given):
             raise runs.Fault("%s is of a log in files, and not in a store" % word)
     given.resume = False  # of the files; the log in the store is always gone on with
     given.store = access_of(given.store.split(","), given.store_ca, given.store_cert, given.store_user, given.store_password)
+
+
+def read_snapshot(given):
+    """The words on snapshots become the rule by which they are made, and the file of their key."""
+    for word in (word for word, value in (("--snapshot", given.snapshot), ("--snapshot-key", given.snapshot_key))
+                 if value is not None and not given.library):
+        raise runs.Fault("%s goes with --library" % word)
+    has_keys = given.store is None and given.log_keys == YES
+    if given.snapshot and not has_keys:
+        raise runs.Fault("--snapshot is of a log in files that keeps the vectors' keys, which a snapshot has too")
+    if given.snapshot is None and given.library and has_keys:
+        given.snapshot = 60 * limits.SNAPSHOT_MINUTES, limits.SNAPSHOT_MIB << 20
+    given.snapshot = given.snapshot or None
+    credential = os.path.join(os.environ.get("CREDENTIALS_DIRECTORY", ""), SNAPSHOT_KEY)
+    if given.library and given.snapshot_key is None and os.path.isabs(credential) and os.path.exists(credential):
+        given.snapshot_key = credential
+
+
+def snapshot(given):
+    """Tells what a log's snapshots have."""
+    try:
+        snapshots.tell(given)
+        return 0
+    except runs.Fault as fault:
+        versions.complain(fault)
+    return WRONG
 
 
 # --- Asking ---
@@ -223,6 +251,20 @@ def seconds(text):
     raise argparse.ArgumentTypeError("%r isn't a number of seconds from 0.001 to 86400" % text)
 
 
+def snapshot_of(text):
+    """After how many seconds and octets snapshots are made: nothing where none are."""
+    if text == NO:
+        return ()
+    minutes, mark, mib = text.partition(",")
+    try:
+        found = 60 * float(minutes), int(float(mib) * (1 << 20))
+        if mark and 0 < found[0] <= 86400 and 0 < found[1] <= 1 << 32:
+            return found
+    except (ValueError, OverflowError):
+        pass
+    raise argparse.ArgumentTypeError("%r isn't `no`, and no minutes up to 1440 with MiB up to 4096, such as 10,8" % text)
+
+
 def address_of(text):
     try:
         return ipaddress.ip_address(text)
@@ -290,6 +332,12 @@ def add_log(words):
                        help="size of a segment of the log; default %d MiB" % limits.SEGMENT_SIZE)
     words.add_argument("--segments", type=whole(2, 10000), default=limits.SEGMENTS, metavar="N",
                        help="how many segments of LOG to keep, and of LOG.counts; default %d" % limits.SEGMENTS)
+    words.add_argument("--snapshot", metavar="MINUTES,MIB", type=snapshot_of,
+                       help="with --library: save the MME beside the log, after so many minutes, or MiB of LOG.counts; default "
+                       "%d,%d; `no` for none" % (limits.SNAPSHOT_MINUTES, limits.SNAPSHOT_MIB))
+    words.add_argument("--snapshot-key", metavar="FILE",
+                       help="with --library: a key of 16 octets or more that seals snapshots; without it, who can write the folder "
+                       "can plant phones; default the service's credential `%s`, if there is one" % SNAPSHOT_KEY)
     words.add_argument("--sync", choices=(YES, NO), default=YES,
                        help="whether an answer waits until what led to it is on disk (default yes); with no, after a power cut the "
                        "log may lack what was answered, and --resume refuses it")
@@ -312,12 +360,27 @@ def add_store(words):
     words.add_argument("--store-password", metavar="FILE", help="a file whose first line is that user's password")
 
 
+def add_of_logs(ways, form):
+    """The ways that are of a log alone."""
+    filling = ways.add_parser("fill", help="print a log without keys with the keys of a file", **form)
+    filling.add_argument("vectors", metavar="VECTORS", help="a file with the lines vec, such as SUBSCRIBERS")
+    filling.add_argument("log", metavar="LOG", help="the log, with its earlier segments")
+    filling.add_argument("--head", action="store_true",
+                         help="print the lines that were given while the front ran (`#+ `) in the log's head, and say which lines "
+                         "are answered otherwise then")
+    filling.set_defaults(act=fill)
+    telling = ways.add_parser("snapshot", help="tell what the snapshots of a log have, without keys", **form)
+    telling.add_argument("log", metavar="LOG", help="the log")
+    telling.add_argument("--snapshot-key", metavar="FILE", help="the key that they are sealed by")
+    telling.set_defaults(act=snapshot)
+
+
 def parser(description):
     form = {"formatter_class": argparse.RawDescriptionHelpFormatter, "allow_abbrev": False}
     words = argparse.ArgumentParser(description=description,
                                     epilog="`tools/front run --help` has the options and the limits.", **form)
     versions.add_to(words)
-    ways = words.add_subparsers(required=True, metavar="run|ask|fill")
+    ways = words.add_subparsers(required=True, metavar="run|ask|fill|snapshot")
     live = ways.add_parser("run", help="take stations", epilog=limits.LIMITS, **form)
     live.add_argument("subscribers", metavar="SUBSCRIBERS", help="a file with the lines mme, sub and vec, or - for standard input")
     live.add_argument("log", metavar="LOG", help="the file that gets the trace")
@@ -342,13 +405,7 @@ def parser(description):
     asking.add_argument("--json", action="store_true", help="print stations, phones and counters as JSON")
     asking.add_argument("--wait", type=seconds, default=0.0, metavar="SECONDS", help="wait for a front that is still starting")
     asking.set_defaults(act=ask)
-    filling = ways.add_parser("fill", help="print a log without keys with the keys of a file", **form)
-    filling.add_argument("vectors", metavar="VECTORS", help="a file with the lines vec, such as SUBSCRIBERS")
-    filling.add_argument("log", metavar="LOG", help="the log, with its earlier segments")
-    filling.add_argument("--head", action="store_true",
-                         help="print the lines that were given while the front ran (`#+ `) in the log's head, and say which lines "
-                         "are answered otherwise then")
-    filling.set_defaults(act=fill)
+    add_of_logs(ways, form)
     return words
 
 

@@ -20,7 +20,7 @@ from tools.fronting.challenges import AUTHENTICATION_REQUEST_DIGITS, challenged
 from tools.fronting.faults import BABBLES, Ended, Failed, LOG_FAILS, SILENT, Unheld, told
 from tools.fronting.journal import Batch
 from tools.fronting.meters import CONTEXT_REQUEST, DOWNLINK, ERROR_INDICATION, RESET_ACKNOWLEDGE, SETUP_RESPONSE
-from tools.fronting.mme import MARK_ANSWER, NOT_TAKEN, TAKEN
+from tools.fronting.mme import MARK_ANSWER, NOT_TAKEN, TAKEN, nothing
 from tools.fronting.used import entry_of
 
 OUT, STATE, PHONE_OWNER, OWNERS = b"out ", b"state ", ord("s"), b"esx"
@@ -53,6 +53,8 @@ class Exchange:
         self.note_settled = lambda batch: None  # who is told of each batch that is answered and kept
         self.lengthen = lambda lines: None  # who is told of further lines of provisioning that the MME took
         self.note_refused = lambda number, line: None  # who is told of one that it refused, and by which number
+        self.note_further = lambda lines: None  # who is told of all of them, in their order
+        self.note_missing = nothing  # who is told that a part of what counts is missing
         self.dirty, self.rest, self.heard_at = set(), b"", 0.0
         self.has_answered, self.held_since = False, None
         self.is_replaying = False  # whether answers are those that were given before
@@ -65,7 +67,7 @@ class Exchange:
         self.make, self.imsis, self.coming = make, head.imsis, set()
         self.mark_by(head.unknown_imsi())
         self.adopt(make(self.loop, self.hear, self.voice.say))
-        self.program.give(head.text.encode("latin-1"))
+        self.program.begin(head)
 
     def mark_by(self, imsi):
         """Marks are for this IMSI, which nobody has."""
@@ -313,11 +315,14 @@ class Exchange:
         """Says which segments went for new ones."""
         for series, path in self.journal.take_gone():
             self.meters.gone += 1
-            self.voice.say("segment_gone", "%s is the oldest segment, and removed: %s" % (path, self.meant_by_missing(series)),
+            self.voice.say("segment_gone", "%s is the oldest segment, and removed: %s" % (
+                path, self.meant_by_missing(series, is_old=True)),
                            path=path)
 
-    def meant_by_missing(self, series):
-        """What it means that a part of a series is missing."""
+    def meant_by_missing(self, series, is_old=False):
+        """What it means that a part of a series, or of its oldest segments, is missing."""
+        if series is self.journal.counts and self.journal.needed is not None:
+            return "a snapshot has what it led to" if is_old else "--resume can't use this run until there is another snapshot"
         if series is self.journal.counts:
             return "--resume and give can't use this run any more"
         return "the trace no longer plays from its beginning"
@@ -382,6 +387,8 @@ class Exchange:
                 if change:
                     self.voice.say("log_" + change.split()[-1], "%s %s: what comes is in a new file there, and %s" % (
                         series.path, change, self.meant_by_missing(series)), path=series.path)
+                    if series is self.journal.counts:
+                        self.note_missing()
                 elif rolls:
                     self.journal.roll(series)
             self.write_settled(rolls)
@@ -441,6 +448,8 @@ class Exchange:
 
     def take_further(self, lines):
         """Takes answers in a row to further lines of provisioning."""
+        self.note_further([(line[len(TAKEN):] if line.startswith(TAKEN) else line.split(b" ", 2)[2]).decode("latin-1")
+                           for line in lines])
         taken = [line[len(TAKEN):].decode("latin-1") for line in lines if line.startswith(TAKEN)]
         self.lengthen(taken)
         self.coming.difference_update(line.split(" ", 2)[1] for line in taken if line.startswith("sub "))

@@ -26,8 +26,10 @@ from tools.fronting.meters import Meters
 from tools.fronting.mme import LINE_IS_WRONG, LibraryMme, PipedMme, library
 from tools.fronting.notify import Manager
 from tools.fronting.provisioning import Head
+from tools.fronting.restoring import standing_after
 from tools.fronting.resuming import (
     NAMED, OF_LIBRARY, OR_FILLED, NoResume, Standing, facts_in, make_way, note_stations, parts_of, perhaps_used)
+from tools.fronting.saving import Saving
 from tools.fronting.soundness import Soundness
 from tools.fronting.standby import Standby
 from tools.fronting.stock import Stock
@@ -53,7 +55,7 @@ class Front:
 
     def __init__(self, settings, head, voice, used):
         self.settings, self.head, self.voice, self.used = settings, head, voice, used
-        self.facts = head.facts  # of the subscribers' file
+        self.facts = list(head.facts)  # of the subscribers' file
         self.loop, self.manager = Loop(), Manager(os.environ)
         self.meters = Meters(keeps_messages=settings.page is not None)
         self.exchange = self.crowd = self.control = self.page = self.giving = self.stock = self.teller = self.followers = None
@@ -64,7 +66,9 @@ class Front:
         self.known, self.begun = set(), 0  # IMSIs of the head and of lines that are played; how many the head began with
         self.resumed, self.given = 0, 0
         self.form = form_of(settings.log_keys, head)  # of the log, as it begins
-        self.make = functools.partial(*((LibraryMme, library()) if settings.library else (PipedMme, settings.mme)))
+        self.package = library() if settings.library else None
+        self.make = functools.partial(*((LibraryMme, self.package) if settings.library else (PipedMme, settings.mme)))
+        self.saving = Saving(self)
 
     # The beginning.
 
@@ -74,6 +78,7 @@ class Front:
             return self.begin_in_store()
         more = self.resume() if self.has_log() else None
         if more is None:
+            self.saving.begin_anew()
             self.put_away()
             self.leave_out_used()
             journal = Journal.begun(self.settings.log, self.head, *self.log_size, self.form)
@@ -111,6 +116,7 @@ class Front:
     def write_to(self, journal):
         """From now on what the MME is given stands in this log, and on disk where it is to be synced. The vectors that were used are
         on disk before the log counts as synced."""
+        self.saving.write_to(journal)
         self.exchange.write_to(journal)
         try:
             self.used.sync()
@@ -122,9 +128,10 @@ class Front:
 
     def leave_out_used(self):
         """The run that begins has no vector that an earlier one used."""
-        count = sum(vector_of(line) in self.used.known for line in self.head.facts)
+        before, count = self.head.facts, sum(vector_of(line) in self.used.known for line in self.head.facts)
         if count:
             self.head = self.used.begun(self.head)
+            self.saving.leave_out(before, self.head.facts)
             self.voice.say("used", "%s left out, used before (%s)" % (
                 "1 vector is" if count == 1 else "%d vectors are" % count, self.used.path), vectors=count)
 
@@ -132,22 +139,24 @@ class Front:
     def log_size(self):
         return self.settings.segment_size << 20, self.settings.segments
 
-    def start(self, head):
+    def start(self, head, make=None):
         self.exchange = Exchange(self.loop, self.voice, self.meters, self.used, self.settings.full_disk)
         self.exchange.note_challenge = self.note_challenge
         self.exchange.lengthen, self.exchange.note_refused = self.lengthen, self.has_refused
-        self.start_mme(head)
+        self.exchange.note_further, self.exchange.note_missing = self.saving.add, self.saving.hurry
+        self.start_mme(head, make)
 
-    def start_mme(self, head):
+    def start_mme(self, head, make=None):
         """An MME with this head, and what follows its phones."""
         self.census.begin()
         self.head, self.known, self.begun = head, set(head.slots), len(head.imsis)
         if self.settings.library:
             head.prepare()
+        self.saving.begin(head)
         self.stock = Stock(head, self.has_few)
         if self.followers is not None:
             self.followers.lengthen()
-        self.exchange.begin(self.make, head)
+        self.exchange.begin(make or self.make, head)
         if self.teller is not None:
             self.teller.end(None)
         self.teller = Teller(self)
@@ -187,9 +196,10 @@ class Front:
         and a run is to begin anew."""
         subscribers = self.head
         try:
-            standing = Standing(self.settings.log)
-            count = len(standing.head.facts) + len(standing.further)
-            given = self.used.after(standing.head.facts + standing.further, subscribers).facts
+            standing = standing_after(self) or Standing(self.settings.log)
+            facts = standing.facts
+            count, given = len(facts), self.used.after(facts, subscribers).facts
+            self.saving.leave_out(subscribers.facts, given)
             up = self.play(standing, self.head_after(standing, given))
             if self.is_over:
                 return ()
@@ -228,7 +238,8 @@ class Front:
 
     def check_used(self, facts, log):
         """Refuses a log that hasn't each challenge whose vector was used: it isn't what the MME was given last."""
-        missing = self.used.among(facts) - self.exchange.replayed
+        left = self.used.known - self.exchange.replayed
+        missing = left and left & self.used.among(facts)
         self.exchange.replayed = None
         if missing:
             raise NoResume("%s has no challenge of %s that %s has: something is missing in it, or another run came after it" % (
@@ -255,17 +266,20 @@ class Front:
         if standing.has_keys != self.form.has_keys:
             stands, wanted = ("the vectors' keys" if form.has_keys else "no keys" for form in (standing, self.form))
             raise NoResume("%s keeps %s, and this run's log is to keep %s (--log-keys)" % (log, stands, wanted))
-        lines = self.form.taken_up(standing.head.facts + standing.further, given)
+        lines = self.form.taken_up(standing.facts, given)
         if lines is None:
             raise NoResume("%s begins with other lines than %s%s" % (log, subscribers, OTHER_LINES[standing.has_keys]))
+        if standing.make:
+            return standing.head
         return Head(list(standing.head.lines) if standing.has_keys else lines[:len(standing.head.facts)])
 
     def play(self, standing, head):
         """Gives the MME what counts of a log, and what happened since that was settled; the stations that were connected."""
         up, fill = set(), self.form.filling()
-        self.start(head)
+        self.start(head, standing.make)
         self.stock.is_quiet = True
         exchange, exchange.is_replaying, exchange.replayed = self.exchange, True, set()
+        standing.restore(self, up)
         for piece in standing.events():
             self.check_lines(piece, self.settings.log)
             note_stations(piece, up)
@@ -428,6 +442,7 @@ class Front:
             self.meters.now = time.time()
             self.crowd.send()
             self.is_busy = self.crowd.collect()
+            self.saving.look()
             self.exchange.flush()
 
     def tick(self):
@@ -450,6 +465,7 @@ class Front:
         self.crowd.sweep(now)
         self.exchange.check_answers(now, self.settings.answer_seconds)
         self.exchange.look_after_log()
+        self.saving.care(now)
         self.soundness.look()
         self.loop.after(CARE_SECONDS, self.care)
 
@@ -541,7 +557,9 @@ class Front:
         if self.crowd is not None:
             self.crowd.send()
             self.turn_until(self.crowd.has_sent, limits.SENDING_SECONDS)
+        self.saving.begin_end()
         self.exchange.end_log()
+        self.saving.end()
         return program.status or 0
 
     def turn_until(self, holds, seconds):
@@ -561,6 +579,7 @@ class Front:
         for part in (self.control, self.page, self.crowd):
             if part is not None:
                 part.close()
+        self.saving.stop()
         if self.exchange is not None:
             if self.exchange.program is not None:
                 self.exchange.program.close()

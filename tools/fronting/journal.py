@@ -23,7 +23,7 @@ from tools import runs
 from tools.fronting import limits
 from tools.fronting.faults import Failed, LOG_FAILS, Unheld, told
 from tools.fronting.keys import Whole
-from tools.fronting.segments import Reading, Series
+from tools.fronting.segments import SNAPSHOT, Reading, Series, numbered
 from tools.fronting.syncing import folder_of, forget_unsynced, note_unsynced, sync_path
 from tools.fronting.turns import Turns
 
@@ -166,6 +166,10 @@ class Journal(Turns):
         self.folder = None
         self.since = self.fault = None  # since when the turn under way is synced, and the fault of that
         self.chunk, self.sure = None, happened.place  # what counts is written up to there, and surely on disk up to there
+        # How many octets counted since the run began: all, those of the chunk, and those before a line that says so, which is
+        # written, and which is surely on disk; and the first segment of what counts that a start needs, where snapshots are made.
+        self.counted = self.counted_chunk = self.counted_written = self.counted_sure = 0
+        self.needed = None
         # How many lines what happened has, where it has its keys, and as its head was when the run began; nothing where that isn't
         # known; as of which segment; how many lines its head has, and how many of them came since.
         self.lines, self.segment, self.head_lines, self.lines_given = None, happened.number, 0, 0
@@ -334,6 +338,13 @@ class Journal(Turns):
         """Whole lines count."""
         self.settled.append(text)
         self.octets += len(text)
+        self.counted += len(text)
+
+    def keep_mark(self, line):
+        """A comment counts, right after all that is settled; how many octets count up to its end."""
+        self.write_ticks()
+        self.keep(line)
+        return self.counted
 
     def write_ticks(self):
         """Seconds in which nothing else happened are one line."""
@@ -358,10 +369,11 @@ class Journal(Turns):
         text = b"".join(self.settled) if self.syncer else b"".join(self.settled) + SETTLED_UNTIL % self.until
         if text:
             self.counts.add(text)
-        self.settled, self.octets, self.due, self.chunk = [], 0, now, self.until
+        self.settled, self.octets, self.due, self.chunk, self.counted_chunk = [], 0, now, self.until, self.counted
         if self.syncer is None:
             self.written, self.chunk = self.chunk, None
             self.sure = self.written
+            self.counted_sure = self.counted_written = self.counted_chunk
             self.trim()
         elif at_once:
             self.sync_chunk()
@@ -375,13 +387,15 @@ class Journal(Turns):
     def end_chunk(self):
         """What counts is on disk: says up to where what happened is settled. Then segments that are too many go, but none of what
         happened since a place up to which it is settled by a line that is on disk."""
-        self.sure = self.written
+        self.sure, self.counted_sure = self.written, self.counted_written
         self.counts.write(SETTLED_UNTIL % self.chunk)
-        self.written, self.chunk = self.chunk, None
+        self.written, self.chunk, self.counted_written = self.chunk, None, self.counted_chunk
         self.trim()
 
     def trim(self):
-        for series, needed in ((self.happened, self.sure[0]), (self.counts, self.counts.number)):
+        """Removes segments that are too many, but none that a start needs; without snapshots it needs all of what counts."""
+        counts = self.counts.number if self.needed is None else self.needed
+        for series, needed in ((self.happened, self.sure[0]), (self.counts, counts)):
             self.gone += [(series, path) for path in series.trim(needed)]
 
     def take_gone(self):
@@ -395,6 +409,8 @@ class Journal(Turns):
 
     def lengthen(self, head, form):
         """Both series have this head from now on, in the form that it brings; there is no line that has to say so."""
+        for snapshot in numbered(self.path, SNAPSHOT).values():
+            os.unlink(snapshot)  # since it is of the head before
         self.form = form
         octets = form.text(head).encode("latin-1")
         self.lines_given += octets.count(b"\n") - self.head_lines

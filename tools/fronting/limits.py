@@ -72,6 +72,11 @@ LONGEST_TRAFFIC, LONGEST_NAME, MOST_REASONS_TOLD, MOST_METERED, TRAFFIC_SECONDS 
 MOST_TOLD_OF, MOST_TOLD_BY, MOST_UNTOLD, MOST_UNTOLD_OCTETS, TELLING_SECONDS = 1000, 20000, 20000, 1 << 22, 0.001
 MOST_REASONS, LONGEST_FACT, FORGETS_AFTER, MOST_LINES_OF_PHONE = 2000, 300, 5000, 100
 
+# Of snapshots: the minutes and MiB of what counts after which the next is made, octets that one by time is made for at the least,
+# seconds for which the MME waits for one, until the next may begin, and after a fault, and how many times as long as it took.
+SNAPSHOT_MINUTES, SNAPSHOT_MIB, SNAPSHOT_LEAST = 10, 8, 4096
+SNAPSHOT_HOLD, SNAPSHOT_REST, SNAPSHOT_AGAIN, SNAPSHOT_SHARE = 0.5, 1, 60, 10
+
 PAGE = os.sysconf("SC_PAGE_SIZE")
 WORDS_SAID = 10000  # lines that wait for standard error to be read; further ones are counted and left out
 

@@ -47,6 +47,10 @@ class Mme:
         self.pid, self.status, self.is_silent = os.getpid(), None, False
         self.waiting, self.size, self.is_last = collections.deque(), 0, False  # what it is to be given, and its octets
 
+    def begin(self, head):
+        """Gives it what it is provisioned with."""
+        self.give(head.text.encode("latin-1"))
+
     def is_over(self):
         if self.is_silent and self.status is not None:
             self.end(self.status)
@@ -194,6 +198,7 @@ class LibraryMme(Mme):
     """An MME of the library. What it is given it plays in later turns of the loop, a while in each."""
 
     takes_further = True
+    stays = False  # whether it is there to be saved once it has ended in order
 
     def __init__(self, package, loop, hear, say):
         super().__init__(loop, hear, say)
@@ -306,7 +311,8 @@ class LibraryMme(Mme):
             self.status, self.is_silent = status, True
             if self.timer is not None:
                 self.timer.cancel()
-            self.mme.close()
+            if status or not self.stays:
+                self.mme.close()
             self.is_over()
 
     def kill(self, number=signal.SIGKILL):
@@ -317,3 +323,4 @@ class LibraryMme(Mme):
         """Ends it, and all that it was known by."""
         self.end = lambda status: None
         self.kill()
+        self.mme.close()

@@ -11,10 +11,11 @@ SAME_RAND = "%s has a vector with this RAND already"
 
 
 class Head:
-    """The lines before the first event, the lines `sub`, IMSIs and addresses by slot, and the words of the line `mme`."""
+    """The lines before the first event, `facts`, which are those that aren't comments, the lines `sub`, IMSIs and addresses by slot,
+    and the words of the line `mme`."""
 
     def __init__(self, lines):
-        self.lines = lines
+        self.lines, self.facts = lines, [line for line in lines if line and line[0] != "#"]
         self.subscribers = [line for line in lines if line.startswith("sub ")]
         subscribers = [line.split(" ") for line in self.subscribers]
         self.imsis, self.addresses = [words[1] for words in subscribers], [words[2] for words in subscribers]  # by slot
@@ -38,6 +39,7 @@ class Head:
     def add(self, line):
         """Has one more line, `sub` or `vec`, after all others."""
         self.lines.append(line)
+        self.facts.append(line)
         self.known.add(line)
         if line.startswith("sub "):
             _, imsi, address, _ = line.split(" ", 3)
@@ -57,11 +59,6 @@ class Head:
     @property
     def text(self):
         return "\n".join(self.lines) + "\n"
-
-    @property
-    def facts(self):
-        """The lines that aren't comments."""
-        return [line for line in self.lines if line and not line.startswith("#")]
 
     def with_more(self, lines):
         """This head and further lines, which are `sub` of a new IMSI and `vec` of one that has a place."""

@@ -1,6 +1,7 @@
 """Taking up a log: what a run that ended has of what counts, and of what happened since that was settled."""
 import contextlib
 import datetime
+import functools
 import mmap
 import os
 import pathlib
@@ -13,7 +14,7 @@ from tools.fronting.faults import WRONG, Failed
 from tools.fronting.journal import GIVEN_UP, UNTIL, Batch, Journal, clock
 from tools.fronting.keys import Keyless
 from tools.fronting.provisioning import Head
-from tools.fronting.segments import NUMBERED, Series, mend, name_of, older_segments
+from tools.fronting.segments import SNAPSHOT, Series, mend, name_of, numbered, older_segments, own_line
 from tools.fronting.syncing import UNSYNCED
 
 TIMES = re.compile(rb"# time ([0-9-]+ [0-9:.]+)\n")
@@ -49,8 +50,8 @@ def further_in(octets, start=0, end=None):
         at = stop + 1
 
 
-def parts_of(path):
-    """The files of a log by the ends of their names: both series, and their segments."""
+def lines_of(path):
+    """The files of a log that have lines, by the ends of their names: both series, and their segments."""
     found = {}
     for end in ("", *OTHERS):
         if os.path.lexists(path + end):
@@ -58,6 +59,12 @@ def parts_of(path):
         for number in older_segments(path + end):
             found[name_of(end, number)] = name_of(path + end, number)
     return found
+
+
+def parts_of(path):
+    """All files of a log by the ends of their names."""
+    snapshots = numbered(path, SNAPSHOT).values()
+    return {**lines_of(path), **{snapshot.removeprefix(path): snapshot for snapshot in snapshots}}
 
 
 def make_way(path, keep):
@@ -130,7 +137,7 @@ def head_facts(path):
         with contextlib.suppress(OSError):
             older = older_segments(series)
             octets = pathlib.Path(older[min(older)] if older else series).read_bytes()
-            found = NUMBERED.search(octets)
+            found = own_line(octets)
             head = octets[:found.start()] if found else b""
             if head and b"\0" not in head:
                 return head.decode("latin-1").splitlines()
@@ -140,19 +147,19 @@ def head_facts(path):
 def facts_in(path, others):
     """The lines of provisioning that a log begins with, and those that were given since, as far as they can be read; of a log
     whose beginning is lost these others too."""
-    parts = [part for part in map(pathlib.Path, parts_of(path).values()) if part.is_file()]
+    parts = [part for part in map(pathlib.Path, lines_of(path).values()) if part.is_file()]
     return (head_facts(path) or others) + [line for part in parts for line in further_in(part.read_bytes())]
 
 
 def perhaps_used(path, others):
     """The same of a log with messages of phones, whose vectors were perhaps used."""
-    parts = map(pathlib.Path, parts_of(path).values())
+    parts = map(pathlib.Path, lines_of(path).values())
     return facts_in(path, others) if any(PHONE.search(part.read_bytes()) for part in parts if part.is_file()) else []
 
 
 def own_number(path, octets):
     """The number that stands in a segment."""
-    own = NUMBERED.search(octets)
+    own = own_line(octets)
     if not own:
         raise NoResume("a segment of %s has no line of its number" % path)
     return int(own[1])
@@ -198,7 +205,10 @@ def entries_of(text):
 
 
 class Standing:
-    """A log that stands: its head, what counts, and what happened since that was settled."""
+    """A log that stands: its head, what counts from its beginning, the octet `start` of segment `first`, and what happened since
+    that was settled."""
+
+    make = None  # what makes the MME that is to play it, where that isn't one with nothing before the head
 
     def __init__(self, path):
         self.path = path
@@ -208,23 +218,40 @@ class Standing:
             self.counts, self.happened = read_series(path + ".counts"), read_series(path)
         except OSError as fault:
             raise NoResume("%s: %s" % (fault.filename, fault.strerror)) from None
-        if list(self.counts) != list(range(1, len(self.counts) + 1)):
-            raise NoResume("%s.counts isn't whole: its segments are %s" % (path, ", ".join(map(str, self.counts))))
-        first = NUMBERED.search(self.counts[1])
-        self.start, self.has_keys = first.end(), not first[0].endswith(Keyless.note.encode() + b"\n")
-        try:
-            self.head = Head(self.counts[1][:first.start()].decode("latin-1").removesuffix("\n").split("\n"))
-        except (StopIteration, IndexError):
-            raise NoResume("%s.counts has no head" % path) from None
+        self.begin()
         self.counts_end = self.end_of_counts()
         self.tail, self.tail_places = self.find_tail()
         self.further = self.find_further()
 
+    def begin(self):
+        """Finds where it begins, and with which head."""
+        self.begin_with(1)
+        first = own_line(self.counts[1])
+        self.start, self.has_keys = first.end(), not first[0].endswith(Keyless.note.encode() + b"\n")
+        try:
+            self.head = Head(self.counts[1][:first.start()].decode("latin-1").removesuffix("\n").split("\n"))
+        except (StopIteration, IndexError):
+            raise NoResume("%s.counts has no head" % self.path) from None
+
+    def begin_with(self, number):
+        """It begins in this segment, and there is each one from there on."""
+        self.first, numbers = number, [other for other in self.counts if other >= number]
+        if not numbers or numbers != list(range(number, number + len(numbers))):
+            raise NoResume("%s.counts isn't whole: its segments are %s" % (self.path, ", ".join(map(str, self.counts))))
+
+    def restore(self, front, up):
+        """What the front and `up`, the stations that were connected, have before the first line that is played."""
+
+    @functools.cached_property
+    def facts(self):
+        """The lines of provisioning, as they stand."""
+        return self.head.facts + self.further
+
     def end_of_counts(self):
         """Up to where what counts is good: the last line that says what is settled, or what stands before the first of all."""
-        last = self.counts[len(self.counts)]
+        last = self.counts[max(self.counts)]
         found = last_of(UNTIL, SETTLED, last)
-        return found.end() if found else NUMBERED.search(last).end()
+        return found.end() if found else own_line(last).end()
 
     def settled_until(self):
         """The place of what happened up to which it is settled."""
@@ -237,7 +264,9 @@ class Standing:
     def spans(self):
         """Each segment of what counts, with where its lines begin and end."""
         for number, segment in self.counts.items():
-            yield segment, self.start if number == 1 else 0, self.counts_end if number == len(self.counts) else len(segment)
+            if number >= self.first:
+                yield (segment, self.start if number == self.first else 0,
+                       self.counts_end if number == max(self.counts) else len(segment))
 
     def find_further(self):
         """The lines of provisioning that were given since, as they stand."""
@@ -261,7 +290,7 @@ class Standing:
         tail, places = [], []
         for other, octets in self.happened.items():
             if other >= number:
-                base, start = NUMBERED.search(octets).end(), offset if other == number else 0
+                base, start = own_line(octets).end(), offset if other == number else 0
                 end = whole_until(octets, base + start)
                 if end < len(octets) and other < max(self.happened):
                     raise NoResume("segment %d of %s isn't whole" % (other, self.path))
@@ -297,15 +326,16 @@ class Standing:
 
     def journal(self, size, most, form):
         """The log, to be written on: without what a crash left half written. What is mapped is let go before it is cut."""
-        numbers, count = list(self.happened), len(self.counts)
+        numbers, counts = list(self.happened), list(self.counts)
         until = self.settled_until()
         self.happened = self.counts = None
         for path, end in ((self.path, self.happened_end), (self.path + ".counts", self.counts_end)):
             os.truncate(path, end)
         journal = Journal(
             Series.taken_up(self.path, "what happened", size, most, max(numbers), min(numbers), form.note),
-            Series.taken_up(self.path + ".counts", "what counts", size, most, count, 1, form.note), form)
-        journal.happened.is_whole = numbers == list(range(1, len(numbers) + 1))
+            Series.taken_up(self.path + ".counts", "what counts", size, most, max(counts), min(counts), form.note), form)
+        for series, segments in zip(journal.series, (numbers, counts)):
+            series.is_whole = segments == list(range(1, len(segments) + 1))
         journal.until = journal.written = journal.sure = until
         journal.head_lines = len(self.head.lines)
         return journal

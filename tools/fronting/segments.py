@@ -14,7 +14,9 @@ from tools.fronting.syncing import folder_of, sync_path
 
 NUMBERED = re.compile(rb"^# segment (\d+), begun .*\n", re.MULTILINE)
 NUMBERED_LINE = re.compile(r"# segment \d+, begun ")  # the beginning of such a line
+SEGMENT = b"# segment "
 DIGITS = 6
+SNAPSHOT = ".snapshot."  # after a log's name, before a snapshot's number (snapshots.py)
 PIECE = 1 << 17  # octets that are read at once
 
 
@@ -28,9 +30,22 @@ def line_of(number, note=""):
     return b"# segment %d, begun %s\n" % (number, (time.strftime("%F %T UTC", time.gmtime()) + note).encode())
 
 
+def own_line(octets):
+    """The line of its number in a segment, or nothing."""
+    at = 0 if octets[:len(SEGMENT)] == SEGMENT else octets.find(b"\n" + SEGMENT) + 1
+    while octets[at:at + len(SEGMENT)] == SEGMENT and not (found := NUMBERED.match(octets, at)):
+        at = octets.find(b"\n" + SEGMENT, at) + 1 or len(octets)
+    return found if octets[at:at + len(SEGMENT)] == SEGMENT else None
+
+
 def older_segments(path):
     """The segments before the one that is written, by number."""
-    prefix = os.path.basename(path) + ".segment."
+    return numbered(path, ".segment.")
+
+
+def numbered(path, mark):
+    """The files whose names are that of another, a mark and a number, by number."""
+    prefix = os.path.basename(path) + mark
     folder = pathlib.Path(path).parent
     found = [entry.name for entry in folder.iterdir() if entry.name.startswith(prefix)] if folder.is_dir() else []
     return {int(name[len(prefix):]): str(folder / name) for name in found if re.fullmatch("[0-9]+", name[len(prefix):])}
@@ -98,7 +113,7 @@ class Series:
         series.file = os.open(path, os.O_RDWR | os.O_APPEND)
         series.size = os.fstat(series.file).st_size
         with mmap.mmap(series.file, 0, access=mmap.ACCESS_READ) as octets:
-            series.base = NUMBERED.search(octets).end()
+            series.base = own_line(octets).end()
         return series
 
     def begin(self, head=b""):

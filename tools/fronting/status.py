@@ -6,7 +6,7 @@ from tools.fronting import limits
 from tools.fronting.meters import OTHER, name_of
 
 PIECE = 500  # phones that are told of at a time
-ALARMS = "vectors", "what happened", "what counts", "log"  # what there are alarms of
+ALARMS = "vectors", "what happened", "what counts", "log", "snapshots"  # what there are alarms of
 STORE = "store"  # and where the log is in a store
 
 
@@ -96,7 +96,7 @@ def counters(front):
         "phones_by_vectors_left": front.stock.by_left(), "fewest_vectors_left": front.stock.least(),
         "log": log(front), "log_octets": log_octets(front),
         "log_segments_gone": meters.gone, "memory_octets": memory(), "mme_memory_octets": memory(exchange.program.pid),
-        "resumed": front.resumed, "given": front.given, **({"store": in_store} if in_store else {}),
+        "resumed": front.resumed, "given": front.given, **front.saving.told(), **({"store": in_store} if in_store else {}),
     }
 
 
@@ -106,7 +106,11 @@ def alarms(front):
     if few := front.stock.few():
         found["vectors"] = "%d of %d phones %s %d vectors or fewer left." % (
             few, len(front.stock.rands), "has" if few == 1 else "have", limits.FEW_VECTORS)
+    if front.saving.why_not:
+        found["snapshots"] = "No snapshot can be made: %s." % front.saving.why_not
     for series in front.soundness.series():
+        if front.saving.covers(series):
+            continue
         if front.soundness.is_low(series):
             found[series.what] = "%d of %d segments of the log of %s are used." % (
                 front.soundness.used(series)[0], series.most, series.what)

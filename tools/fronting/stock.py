@@ -25,15 +25,15 @@ class Stock:
             if word == "sub":
                 fresh.append(b"")
             elif word == "vec":
-                imsi, rand = rest.split(" ")[:2]
-                further.setdefault(head.slots[imsi], []).append(runs.octets_of(rand))
+                imsi, rand, _ = rest.split(" ", 2)
+                further.setdefault(head.slots[imsi], []).append(rand)
         self.lines = len(head.lines)
         self.rands += fresh
         self.spent += [0] * len(fresh)
         self.phones[0] += len(fresh)
         for slot, rands in further.items():
             before = self.left(slot)
-            self.rands[slot] += b"".join(rands)
+            self.rands[slot] += runs.octets_of("".join(rands))
             self.move(slot, before)
 
     def left(self, slot):
@@ -62,6 +62,13 @@ class Stock:
             before = self.left(slot)
             self.spent[slot] = place + 1
             self.move(slot, before)
+
+    def spend(self, counts):
+        """So many vectors of each phone are used."""
+        for slot, count in enumerate(counts):
+            if count != self.spent[slot]:
+                before, self.spent[slot] = self.left(slot), count
+                self.move(slot, before)
 
     def place_of(self, slot, rand, since=0):
         """The place of a phone's vector, from one on; nothing where none has this RAND."""

@@ -117,8 +117,10 @@ class UsedVectors:
     def after(self, standing, given):
         """The head of a file, for a run that goes on after a log with the lines that stand: without the vectors that were used,
         but for those of the log."""
-        left, place = [], 0
-        for line in given.facts:
+        facts = given.facts
+        left = facts[:len(standing)] if facts[:len(standing)] == standing else []
+        place = len(left)
+        for line in facts[place:]:
             if place < len(standing) and standing[place] in (line, without_keys(line)):
                 place += 1
             elif vector_of(line) in self.known:
