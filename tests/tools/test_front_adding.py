@@ -265,7 +265,7 @@ class Whole(unittest.TestCase):
         self.exchange.begin(lambda *given: LibraryMme(package, *given), self.head)
         self.front = types.SimpleNamespace(
             loop=self.loop, exchange=self.exchange, head=self.head, stock=stock.Stock(self.head, none), form=keys.Whole(), given=0,
-            used=types.SimpleNamespace(check_vector=none), giving=None,
+            used=types.SimpleNamespace(check_vector=none), giving=None, coming=[], asking=None,
             voice=types.SimpleNamespace(say=lambda event, text: self.said.append((event, text))),
             teller=types.SimpleNamespace(refuse=lambda: self.said.append("refuse")))
         self.exchange.lengthen = lambda lines: [self.head.add(line) for line in lines]

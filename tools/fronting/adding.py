@@ -45,14 +45,38 @@ def lines_in(text):
         at = end
 
 
-class Further:
-    """Lines that are to be given, each looked at as one that comes after those before it: `lines` has those that aren't comments,
-    `imsis` the IMSIs of new subscribers."""
+class Coming:
+    """What lines of provisioning have that are on their way to the MME: the IMSIs and addresses of subscribers, the lines, the
+    vectors by IMSI and RAND, and how many each IMSI has."""
 
-    def __init__(self, head, stock, used, form):
-        self.head, self.stock, self.used, self.form = head, stock, used, form.further()
-        self.number, self.lines = 0, []
+    def __init__(self):
         self.imsis, self.places, self.known, self.rands, self.vectors = set(), set(), set(), set(), collections.Counter()
+
+    def add(self, other):
+        """What another has comes too."""
+        for mine, theirs in zip(self.sets, other.sets):
+            mine |= theirs
+        self.vectors += other.vectors
+
+    def remove(self, other):
+        """What another has, and nobody else, is there."""
+        for mine, theirs in zip(self.sets, other.sets):
+            mine -= theirs
+        self.vectors -= other.vectors
+
+    @property
+    def sets(self):
+        return self.imsis, self.places, self.known, self.rands
+
+
+class Further(Coming):
+    """Lines that are to be given, each looked at as one that comes after those before it, and after `others` that are on their way
+    to the MME: `lines` has those that aren't comments, `imsis` the IMSIs of new subscribers."""
+
+    def __init__(self, head, stock, used, form, others=()):
+        super().__init__()
+        self.head, self.stock, self.used, self.form = head, stock, used, form.further()
+        self.number, self.lines, self.all = 0, [], [self, *others]
 
     def take(self, line):
         """Takes one more line; a fault where it can't be given."""
@@ -75,7 +99,7 @@ class Further:
                 raise runs.Fault("no line begins so")
             word, _ = fields_of_further(line)
             raise runs.Fault(LENGTHS[word])
-        if line in self.head.known or line in self.known:
+        if line in self.head.known or self.stands("known", line):
             raise runs.Fault("it stands already")
         imsi, address, of_vector, rand = found.groups()
         if imsi:
@@ -84,11 +108,19 @@ class Further:
             self.look_at_vector(of_vector, rand.lower(), line)
         self.known.add(line)
 
+    def stands(self, name, what):
+        """Whether something is in a set of these lines, or of others on their way."""
+        return any(what in getattr(one, name) for one in self.all)
+
+    def has(self, imsi):
+        """Whether there is a subscriber with an IMSI, or comes before."""
+        return imsi in self.head.slots or self.stands("imsis", imsi)
+
     def look_at_subscriber(self, imsi, address):
         """Whether another has the IMSI or the address, and there is room for one more."""
-        if imsi in self.head.slots or imsi in self.imsis:
+        if self.has(imsi):
             raise runs.Fault("%s has its line sub" % imsi)
-        if address in self.head.places or address in self.places:
+        if address in self.head.places or self.stands("places", address):
             raise runs.Fault("another subscriber has the address %s" % address)
         if len(self.head.imsis) + len(self.imsis) >= limits.MOST_SUBSCRIBERS:
             raise runs.Fault("there are %d subscribers, and no more than that" % limits.MOST_SUBSCRIBERS)
@@ -98,15 +130,15 @@ class Further:
     def look_at_vector(self, imsi, rand, line):
         """Whether its subscriber is there, has room for it and none like it, and it wasn't used."""
         slot = self.head.slots.get(imsi)
-        if slot is None and imsi not in self.imsis:
+        if not self.has(imsi):
             raise runs.Fault("%s has no line sub" % imsi)
         self.used.check_vector(imsi, rand)
         self.vectors[imsi] += 1
-        count = self.vectors[imsi] + (self.stock.most_unspent(slot) if slot is not None else 0)
+        count = sum(one.vectors[imsi] for one in self.all) + (self.stock.most_unspent(slot) if slot is not None else 0)
         if count > limits.MOST_UNSPENT:
             raise runs.Fault(TOO_MANY % (imsi, count, limits.MOST_UNSPENT))
         self.form.add(line)
-        if (imsi, rand) in self.rands or slot is not None and self.stock.place_of(slot, bytes.fromhex(rand)) is not None:
+        if self.stands("rands", (imsi, rand)) or slot is not None and self.stock.place_of(slot, bytes.fromhex(rand)) is not None:
             raise runs.Fault(SAME_RAND % imsi)
         self.rands.add((imsi, rand))
 
@@ -116,7 +148,8 @@ class Adding:
 
     def __init__(self, front, parts, reply):
         self.front, self.parts, self.reply = front, parts, reply
-        self.further = Further(front.head, front.stock, front.used, front.form)
+        self.further = Further(front.head, front.stock, front.used, front.form, front.coming)
+        front.coming.append(self.further)
         self.place = self.kept = 0  # how many lines were put, and how many of these are known to stand in the log
         self.timer, self.is_over, self.refused = None, False, []
 
@@ -181,6 +214,7 @@ class Adding:
 
     def end(self, answer):
         self.is_over, self.front.giving = True, None
+        self.front.coming.remove(self.further)
         if self.timer is not None:
             self.timer.cancel()
         word, _, why = answer.partition(" ")
