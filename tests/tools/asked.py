@@ -14,12 +14,17 @@ NETWORK = phones.Network().words + "\n"
 
 
 class Asking(fronted.Running):
-    """A front in a folder with a list of SIMs, and the source's file of their SQNs. `oddities` are the source's (odd_source.py)."""
+    """A front in a folder with a list of SIMs, and the source's file of their SQNs. The source is tests/tools/odd_source.py,
+    or where its `oddities` are None, `tools/vectors serve`."""
 
     def __init__(self, test, folder, *words, oddities=(), front=None, **named):
-        self.front = front or super().front
-        source = [sys.executable, "-B", TESTS / "odd_source.py", folder / "sims", folder / "sqns", folder / "asked", *oddities]
-        super().__init__(test, "--source", shlex.join(map(str, source)), *words, program=fronted.LIBRARY, folder=folder, **named)
+        self.front, files, words = front, [folder / "sims", folder / "sqns"], list(words)
+        if "--source" not in words:
+            source = [TESTS / "odd_source.py", *files, folder / "asked", *(oddities or ())]
+            if oddities is None:
+                source = [tools.TOP / "tools" / "vectors", "serve", *files]
+            words += ["--source", shlex.join(map(str, [sys.executable, "-B", *source]))]
+        super().__init__(test, *words, program=fronted.LIBRARY, folder=folder, **named)
 
     def asked(self):
         """The requests that the source had."""
@@ -56,7 +61,7 @@ class Laboratory:
         """A front that begins or goes on, and its station."""
         self.running = Asking(self.test, self.folder, *self.words, *words, head=head or self.head, front=self.front,
                               oddities=self.oddities)
-        self.running.until((self.folder / "asked").exists)
+        self.running.until(lambda: self.oddities is None or (self.folder / "asked").exists())
         self.radio = Radio(self.running)
         for phone in getattr(self, "phones", ()):
             phone.radio, phone.b = self.radio, None

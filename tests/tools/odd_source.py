@@ -1,6 +1,6 @@
 #!/usr/bin/env python3
-"""A source of vectors as `tools/vectors serve`, with oddities: odd_source.py SIMS STORE RECORD [IMSI=ODDITY ..]. RECORD gets each
-request with its time. What is odd for an IMSI is one of these.
+"""A source of vectors as `tools/vectors serve`, but that a SIM's RAND depends on its SQN alone, with oddities: odd_source.py SIMS
+STORE RECORD [IMSI=ODDITY ..]. RECORD gets each request with its time. What is odd for an IMSI is one of these.
 
     never      there is no answer
     late       the answer comes after six seconds
@@ -14,6 +14,7 @@ request with its time. What is odd for an IMSI is one of these.
     dies       the source ends
     stale      AUTS is answered by `later`
 """
+import hashlib
 import pathlib
 import sys
 import threading
@@ -26,6 +27,15 @@ from tools.sourcing import serving
 from tools.sourcing.store import Store
 
 OTHER, LATE = "001019999999999", 6
+
+
+class Steady(serving.Source):
+    """One that gives a SIM the same vectors in each run."""
+
+    def vectors(self, wanted, first):
+        names = iter("%s %d" % (wanted.sim.imsi, (first or 0) + place) for place in range(wanted.request.count))
+        self.random = lambda count: hashlib.sha256(next(names).encode()).digest()[:count]
+        return super().vectors(wanted, first)
 
 
 class Odd:
@@ -73,7 +83,7 @@ def say(text):
 
 def main(sims, store, record, *oddities):
     known = serving.read_sims(sims)
-    odd = Odd(serving.Source(known, Store(store), lambda text: None), known, dict(pair.split("=") for pair in oddities))
+    odd = Odd(Steady(known, Store(store), lambda text: None), known, dict(pair.split("=") for pair in oddities))
     with open(record, "a", encoding="ascii", buffering=1) as file:
         for line in sys.stdin:
             file.write("%.3f %s" % (time.time(), line))

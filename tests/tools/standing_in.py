@@ -1,7 +1,7 @@
 #!/usr/bin/env python3
-"""tools/front with a stand-in in the place of the library's MME: standing_in.py run WORD.. It challenges phones by their vectors, in
-their order, and lets those in that answer right, by a plain SECURITY MODE COMMAND. `--held SECONDS` before `run` changes how long a
-message is held.
+"""tools/front with a stand-in in the place of the library's MME: standing_in.py run WORD.. It challenges phones by their vectors,
+in their order, and lets those in that answer right, by a plain SECURITY MODE COMMAND. `--held SECONDS` before `run` changes how
+long a message is held, `--supply SECONDS` how long a source may take.
 """
 import pathlib
 import sys
@@ -112,7 +112,7 @@ PACKAGE = types.SimpleNamespace(Mme=StandIn, Refused=soizkadur.Refused, Refusal=
 
 if __name__ == "__main__":
     front.library = lambda: PACKAGE
-    if sys.argv[1] == "--held":
-        limits.HELD_SECONDS = float(sys.argv.pop(2))
-        sys.argv.pop(1)
+    while (name := sys.argv[1].lstrip("-")) in ("held", "supply"):
+        setattr(limits, name.upper() + "_SECONDS", float(sys.argv[2]))
+        del sys.argv[1:3]
     sys.exit(command.main(""))

@@ -3,17 +3,20 @@ source that is slow, dead or wrong, and a log that is taken up. The MME is a sta
 import json
 import os
 import re
+import shlex
 import signal
+import subprocess
 import time
 import unittest
 import urllib.request
 
 from bench.etcds import free_port
 from reference import lte
-from tests.tools import fronted
-from tests.tools.asked import NETWORK, STANDING_IN, Laboratory
+from tests.tools import fronted, tools
+from tests.tools.asked import NETWORK, PATIENT, STANDING_IN, Laboratory
 from tests.tools.handsets import GAVE_UP, REGISTERED, Handset, Radio
 from tools import s1ap
+from tools.fronting import limits
 
 NO_VECTOR, NOBODY = "rejected 17", "rejected 8"
 NOBODYS_GUTI = bytes.fromhex("f600f11080010200010001")  # of another MME code
@@ -26,12 +29,22 @@ def initial(octets):
     return octets[1] == s1ap.INITIAL_UE
 
 
-class Held(unittest.TestCase):
+class Asked(unittest.TestCase):
+    """Fronts with a stand-in: one that holds messages as long as it does, and one that has time for a source."""
+
+    prompt, patient = (STANDING_IN,), PATIENT
+
+    def laboratory(self, count, *words, prompt=False, limits=(), **named):
+        """SIMs with a front, whose limits may be other ones, and a source that runs."""
+        return Laboratory(self, count, *words, front=[*(self.prompt if prompt else self.patient), *limits], **named)
+
+
+class Held(Asked):
     """Messages that wait for vectors."""
 
     def test_attaches(self):
         """A phone without a vector is let in: its vectors stand in the log right before its message, and more come beside."""
-        lab = Laboratory(self, 1)
+        lab = self.laboratory(1)
         self.assertEqual(lab.phones[0].attaches(), REGISTERED)
         imsi = lab.phones[0].imsi
         lab.running.until(lambda: "vectors_left=5" in lab.running.asks("phones"))
@@ -43,7 +56,7 @@ class Held(unittest.TestCase):
 
     def test_stock(self):
         """From then on nobody waits, and a phone never has fewer than two left; each vector is asked for and used once."""
-        lab = Laboratory(self, 1)
+        lab = self.laboratory(1)
         for count in range(1, 31):
             self.assertEqual(lab.phones[0].attaches(), REGISTERED)
             lab.running.until(lambda: sum(int(line.split(" ")[2]) for line in lab.running.asked()) - count >= 2)
@@ -59,7 +72,7 @@ class Held(unittest.TestCase):
 
     def test_who_it_is(self):
         """By the GUTI that this MME gave, or by the answer to IDENTITY REQUEST where it is another's."""
-        lab = Laboratory(self, 2)
+        lab = self.laboratory(2)
         own = bytes.fromhex("f600f110800101") + (1 << 16 | 5).to_bytes(4, "big")
         self.assertEqual(lab.phones[1].attaches(own), REGISTERED)
         self.assertEqual(lab.phones[0].attaches(NOBODYS_GUTI), REGISTERED)
@@ -69,7 +82,7 @@ class Held(unittest.TestCase):
 
     def test_protected(self):
         """An ATTACH REQUEST that is protected is one."""
-        lab = Laboratory(self, 1)
+        lab = self.laboratory(1)
         esm = lte.pdn_connectivity_request(1, 1, False)
         phone, nas = lab.phones[0], lte.attach_request(1, lte.imsi_identity(lab.phones[0].imsi), b"\xe0\x60", esm)
         phone.b = lab.radio.new_id(phone)
@@ -79,7 +92,7 @@ class Held(unittest.TestCase):
 
     def test_late(self):
         """After two seconds a message goes as it is, and others are served meanwhile; vectors that come late are for next time."""
-        lab = Laboratory(self, 3, front=(STANDING_IN,), oddities=["001010000000001=late"])
+        lab = self.laboratory(3, prompt=True, oddities=["001010000000001=late"])
         late, *others = lab.phones
         late.begins()
         begun = time.monotonic()
@@ -95,7 +108,7 @@ class Held(unittest.TestCase):
 
     def test_order(self):
         """What a phone's station says of it meanwhile comes after, and nobody else's message does."""
-        lab = Laboratory(self, 2, front=(STANDING_IN,), oddities=["001010000000001=never"])
+        lab = self.laboratory(2, prompt=True, oddities=["001010000000001=never"])
         held, other = lab.phones
         self.assertEqual(other.attaches(), REGISTERED)
         held.begins()
@@ -114,7 +127,7 @@ class Held(unittest.TestCase):
 
     def test_reset(self):
         """A RESET and the station's loss come after what was held of it, which goes as it is."""
-        lab = Laboratory(self, 1, oddities=["001010000000001=never"])
+        lab = self.laboratory(1, oddities=["001010000000001=never"])
         for end in ("reset", "loss"):
             with self.subTest(end=end):
                 lab.phones[0].begins()
@@ -126,7 +139,7 @@ class Held(unittest.TestCase):
 
     def test_at_the_end(self):
         """A front that ends gives the MME what it holds."""
-        lab = Laboratory(self, 1, oddities=["001010000000001=never"])
+        lab = self.laboratory(1, oddities=["001010000000001=never"])
         lab.phones[0].begins()
         lab.running.until(lab.running.asked)
         self.assertEqual(lab.running.stop()[0], 0)
@@ -134,7 +147,7 @@ class Held(unittest.TestCase):
 
     def test_room(self):
         """A station that has much held has no room for more: those messages go as they are, and another station's are held."""
-        lab = Laboratory(self, 2, oddities=["001010000000001=never"])
+        lab = self.laboratory(2, oddities=["001010000000001=never"])
         greedy, other = lab.phones[0], Handset(Radio(lab.running, 1), *lab.sims[1][::2])
         esm = lte.pdn_connectivity_request(1, 1, False)
         nas = lte.attach_request(1, lte.imsi_identity(greedy.imsi), b"\xe0\x60", esm)
@@ -147,9 +160,24 @@ class Held(unittest.TestCase):
         self.assertEqual({s1ap.carried(s1ap.read(octets))[:3] for octets in lab.radio.got[1:]}, {b"\x07\x44\x11"})
         self.assertEqual(lab.running.stop()[0], 0)
 
+    def test_beside_a_give(self):
+        """While many lines are given, a phone that has none waits no longer than else; all of both are given."""
+        lab = self.laboratory(1)
+        self.assertEqual(lab.phones[0].attaches(), REGISTERED)
+        lines = ["sub 00102%010d 0b%06x 0a000064 %08x\n" % (place, place, place) for place in range(1, 20001)]
+        (lab.folder / "given").write_text("".join(lines))
+        words = [tools.TOP / "tools" / "front", "ask", lab.running.control, "give", lab.folder / "given"]
+        with subprocess.Popen(words, stdout=subprocess.PIPE, text=True) as asking:
+            lab.running.until(lambda: lines[100] in lab.running.log.read_text())
+            for _ in range(10):
+                self.assertEqual(lab.phones[0].attaches(), REGISTERED)
+            self.assertEqual(asking.stdout.read(), "given 20000 subscribers, 0 vectors\n")
+        self.assertGreater(lab.running.given().count(("vec", lab.phones[0].imsi)), 9)
+        self.assertEqual(lab.running.stop()[0], 0)
+
     def test_hostile(self):
         """Messages that look like an ATTACH REQUEST and are none, and NAS of no octet, change nothing."""
-        lab = Laboratory(self, 1)
+        lab = self.laboratory(1)
         network, station = lab.radio.network, lab.radio.station
         for nas in (b"", b"\x07", b"\x07\x41", b"\x07\x41\x71", b"\x07\x41\x71\x0b", b"\x07\x41\x71\x08" + b"\xff" * 8,
                     b"\x07\x41\x71\x0b\xf6" + bytes(10), b"\x17\x07\x41", b"\x07\x56", b"\x07\x5c\x15", b"\x07\x5c\x15\x30\x0e"):
@@ -161,12 +189,12 @@ class Held(unittest.TestCase):
         self.assertEqual(lab.running.stop()[0], 0)
 
 
-class Ahead(unittest.TestCase):
+class Ahead(Asked):
     """Phones whose SQN is ahead."""
 
     def ahead(self, *oddities):
         """One whose MME has some vectors from before."""
-        lab = Laboratory(self, 2, oddities=oddities)
+        lab = self.laboratory(2, oddities=oddities)
         phone = lab.phones[0]
         self.assertEqual(phone.attaches(), REGISTERED)
         self.is_stocked(lab)
@@ -188,7 +216,7 @@ class Ahead(unittest.TestCase):
                 self.assertEqual(len(phone.heard) - count, 2)
                 self.is_stocked(lab)
         text = lab.running.log.read_text()
-        self.assertEqual(len(re.findall("# the message of IMSI %s is given once more for each of [34] vectors" % phone.imsi, text)), 3)
+        self.assertEqual(len(re.findall("# the message of IMSI %s is given once more for each of [34] v" % phone.imsi, text)), 3)
         self.assertEqual(len(set(phone.heard)), len(phone.heard))
         used = (lab.folder / "log.used").read_text().splitlines()
         self.assertEqual(len(used), len(set(used)))
@@ -226,12 +254,12 @@ class Ahead(unittest.TestCase):
         self.assertEqual([line for line in lab.running.asked()[count:] if phone.imsi in line], [])
 
 
-class Added(unittest.TestCase):
+class Added(Asked):
     """Who isn't provisioned."""
 
     def test_added(self):
         """Who is known to the source is added, with an address and a TEID of his own, and let in; nobody else is."""
-        lab = Laboratory(self, 3, *POOL, provisioned=False, oddities=["001010000000003=unknown"])
+        lab = self.laboratory(3, *POOL, provisioned=False, oddities=["001010000000003=unknown"])
         lab.attach(lab.phones)
         self.assertEqual([phone.outcomes for phone in lab.phones], [[REGISTERED], [REGISTERED], [NOBODY]])
         subs = [line.split(" ")[2:] for line in lab.running.log.read_text().splitlines() if line.startswith("#+ sub")]
@@ -244,22 +272,23 @@ class Added(unittest.TestCase):
 
     def test_not_added(self):
         """Without --add the source isn't asked for him."""
-        lab = Laboratory(self, 1, provisioned=False)
+        lab = self.laboratory(1, provisioned=False)
         self.assertEqual(lab.phones[0].attaches(), NOBODY)
         self.assertEqual(lab.running.asked(), [])
 
     def test_no_address(self):
         """Where there is no address left, this is said, and the others stay."""
-        lab = Laboratory(self, 3, "--add", "10.45.0.1", "10.45.0.0/30", provisioned=False)
+        lab = self.laboratory(3, "--add", "10.45.0.1", "10.45.0.0/30", provisioned=False)
         lab.attach(lab.phones[:1])
         lab.attach(lab.phones[1:])
         self.assertEqual(sorted(phone.outcomes for phone in lab.phones), [[REGISTERED], [NOBODY], [NOBODY]])
-        lab.running.until(lambda: b"can't have IMSI 001010000000002 be added: 10.45.0.0/30 has no address left" in lab.running.said())
+        text = b"can't have IMSI 001010000000002 be added: 10.45.0.0/30 has no address left"
+        lab.running.until(lambda: text in lab.running.said())
         self.assertEqual(lab.phones[0].attaches(), REGISTERED)
 
     def test_taken_up(self):
-        """He stays where the log is taken up, though no file has him, and nothing is asked for twice; the next gets another address."""
-        lab = Laboratory(self, 3, *POOL, "--resume", provisioned=False)
+        """He stays where the log is taken up, though no file has him, and nothing is asked for twice; the next has another address."""
+        lab = self.laboratory(3, *POOL, "--resume", provisioned=False)
         lab.attach(lab.phones[:2])
         lab.running.until(lambda: lab.running.asks("phones").count("vectors_left=5") == 2)
         asked = lab.running.asked()
@@ -278,7 +307,7 @@ class Added(unittest.TestCase):
         self.assertEqual(lab.running.stop()[0], 0)
 
 
-class Odd(unittest.TestCase):
+class Odd(Asked):
     """Sources that are slow, dead or wrong."""
 
     def test_wrong(self):
@@ -290,7 +319,7 @@ class Odd(unittest.TestCase):
         taken = {"garbage", "long", "cut"}
         for oddity, text in words.items():
             with self.subTest(oddity=oddity):
-                lab = Laboratory(self, 2, front=(STANDING_IN,), oddities=["001010000000001=" + oddity])
+                lab = self.laboratory(2, prompt=True, oddities=["001010000000001=" + oddity])
                 lab.attach(lab.phones)
                 self.assertEqual([phone.outcomes for phone in lab.phones],
                                  [[REGISTERED if oddity in taken else NO_VECTOR], [REGISTERED]])
@@ -302,10 +331,10 @@ class Odd(unittest.TestCase):
 
     def test_again(self):
         """A RAND that a phone had isn't taken, also of a front that begins anew."""
-        lab = Laboratory(self, 1, "--resume", "--anew", "--keep", "1", oddities=["001010000000001=again"])
+        lab = self.laboratory(1, "--resume", "--anew", "--keep", "1", oddities=["001010000000001=again"])
         phone = lab.phones[0]
         self.assertEqual([phone.attaches() for _ in range(3)], [REGISTERED, REGISTERED, NO_VECTOR])
-        lab.running.until(lambda: b"has a vector with this RAND already" in lab.running.said() or b"stands already" in lab.running.said())
+        lab.running.until(lambda: b"for IMSI %s: it stands already" % phone.imsi.encode() in lab.running.said())
         self.assertEqual(lab.running.stop()[0], 0)
         for path in lab.folder.glob("log"):
             path.write_text("damaged\n")
@@ -316,14 +345,37 @@ class Odd(unittest.TestCase):
 
     def test_dies(self):
         """A source that ends is begun again, with pauses that grow; who waits for it is asked for again."""
-        lab = Laboratory(self, 2, oddities=["001010000000001=dies"])
+        lab = self.laboratory(2, oddities=["001010000000001=dies"])
         lab.attach(lab.phones)
         self.assertEqual([phone.outcomes for phone in lab.phones], [[NO_VECTOR], [REGISTERED]])
         lab.running.until(lambda: b"the source ended with status 9, and is begun again in 0.2 s" in lab.running.said())
 
+    def test_silent(self):
+        """One that tells nothing is ended and begun again; one that doesn't heed the end of its input is killed with the front."""
+        for words in (["sleep", "1000"], ["sh", "-c", "trap '' TERM HUP; sleep 1000; :"]):
+            with self.subTest(words=words):
+                lab = self.laboratory(1, "--source", shlex.join(words), prompt=True, oddities=None, limits=["--supply", "1"])
+                self.assertEqual(lab.phones[0].attaches(), NO_VECTOR)
+                lab.running.until(lambda: b"the source has answered nothing for 1 s, and is ended" in lab.running.said())
+                lab.running.until(lambda: b"the source ended by signal 9, and is begun again in 0.1 s" in lab.running.said())
+                number = lab.running.source()
+                self.assertEqual(lab.running.stop()[0], 0)
+                self.assertFalse(fronted.pathlib.Path("/proc/%d" % number).exists())
+
+    def test_babbles(self):
+        """One that tells nonsense without end is ended, and delays nobody."""
+        lab = self.laboratory(1, "--source", "yes vec 1", prompt=True, oddities=None)
+        begun = time.monotonic()
+        for _ in range(20):
+            lab.radio.connection.says(lte.s1_setup_request(lab.radio.network, lab.radio.station))
+        self.assertLess(time.monotonic() - begun, 20 * limits.MOST_DELAY)
+        lab.running.until(lambda: b"the source tells only what can't be taken, and is ended" in lab.running.said())
+        self.assertEqual(lab.phones[0].attaches(), NO_VECTOR)
+        self.assertEqual(lab.running.stop()[0], 0)
+
     def test_killed(self):
         """Killed at twenty moments: nobody is rejected, and no RAND comes twice."""
-        lab = Laboratory(self, 4)
+        lab = self.laboratory(4)
         for times in range(20):
             with self.subTest(times=times):
                 for phone in lab.phones:
@@ -345,8 +397,8 @@ class Odd(unittest.TestCase):
                            (("--library", "--source", ""), "--source has a program"),
                            (("--library", "--source", "cat", "--log-keys", "no"), "--log-keys no doesn't go with --source"),
                            (("--library", "--source", "cat", "--store", "http://127.0.0.1:1"), "--store doesn't go with --source"),
-                           (("--library", "--source", "cat", "--add", "x", "10.0.0.0/8"), "--add: Expected 4 octets in 'x'"),
-                           (("--library", "--source", "cat", "--add", "10.0.0.1", "10.0.0.1/8"), "--add: 10.0.0.1/8 has host bits")):
+                           (("--library", "--source", "cat", "--add", "x", "10.0.0.0/8"), "--add: Expected 4 octets in"),
+                           (("--library", "--source", "cat", "--add", "10.0.0.1", "10.0.0.1/8"), "--add: 10.0.0.1/8 has")):
             with self.subTest(more=more):
                 status, told = fronted.said([*words, *more])
                 self.assertEqual((status, told.startswith("front: " + text)), (2, True), told)
@@ -359,7 +411,7 @@ class Odd(unittest.TestCase):
     def test_seen(self):
         """Page and metrics tell of the source, and have no keys; its end is an alarm."""
         port = free_port()
-        lab = Laboratory(self, 1, "--page", "127.0.0.1:%d" % port, oddities=["001010000000001=later"])
+        lab = self.laboratory(1, "--page", "127.0.0.1:%d" % port, oddities=["001010000000001=later"])
         self.assertEqual(lab.phones[0].attaches(), NO_VECTOR)
 
         def get(path):
@@ -378,26 +430,30 @@ class Odd(unittest.TestCase):
         self.assertEqual(lab.running.stop()[0], 0)
 
 
-class Alone(unittest.TestCase):
+class Alone(Asked):
     """What one phone's source does is nobody else's."""
 
     def lives(self, oddity):
-        """The answers to nine phones beside one, with the RANDs left out, in the order of each."""
-        lab = Laboratory(self, 10, oddities=["001010000000001=" + oddity] if oddity else [])
-        for _ in range(3):
+        """What nine phones are sent beside one at another station, each in its order."""
+        lab = self.laboratory(10, oddities=["001010000000001=" + (oddity or "unknown")])
+        one, nine = Handset(Radio(lab.running, 1), *lab.sims[0][::2]), lab.phones[1:]
+        for times in range(4):
             if oddity:
-                lab.phones[0].begins()
-            lab.attach(lab.phones[1:])
-        for phone in lab.phones[1:4]:
-            phone.card.highest = [sequence + AHEAD for sequence in phone.card.highest]
-        lab.attach(lab.phones[1:])
+                one.begins()
+            if times == 3:
+                for phone in nine[:3]:
+                    phone.card.highest = [sequence + AHEAD for sequence in phone.card.highest]
+            lab.attach(nine)
+        self.assertEqual([phone.outcomes for phone in nine], [[REGISTERED] * 4] * 9)
+        self.assertEqual([len(phone.heard) for phone in nine], [5] * 3 + [4] * 6)
         self.assertEqual(lab.running.stop()[0], 0)
-        return [(phone.outcomes, len(phone.heard)) for phone in lab.phones[1:]]
+        return {phone.imsi: [octets for octets in lab.radio.got if lab.radio.phones.get(s1ap.ids(s1ap.read(octets))[1]) is phone]
+                for phone in nine}
 
     def test_alone(self):
-        """Nine phones are let in and challenged as often beside a phone whose source never answers, dies or is wrong as without."""
+        """Nine phones are sent the same octets beside a phone whose source never answers, dies or is wrong as without it."""
         wanted = self.lives("")
-        self.assertEqual(wanted, [([REGISTERED] * 4, 5)] * 3 + [([REGISTERED] * 4, 4)] * 6)
+        self.assertGreater(min(map(len, wanted.values())), 7)
         for oddity in ("never", "dies", "garbage", "other"):
             with self.subTest(oddity=oddity):
                 self.assertEqual(self.lives(oddity), wanted)

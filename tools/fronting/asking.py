@@ -1,8 +1,8 @@
 """Vectors that the front asks a source for, and gives the MME.
 
-It asks for a phone that is here once it has few that aren't spent, for one that waits (holding.py), and after a phone's own SQN. What
-comes stands in the log as lines that are given (adding.py). A source that is slow, dead or wrong has nobody else wait, and nothing
-that it tells is said again, since it may be keys.
+It asks for a phone that is here once it has few that aren't spent, for one that waits (holding.py), and after a phone's own SQN.
+What comes stands in the log as lines that are given (adding.py). A source that is slow, dead or wrong has nobody else wait, and
+nothing that it tells is said again, since it may be keys.
 """
 import collections
 import functools
@@ -27,8 +27,8 @@ def wanted_of(imsi, count, network, *failure):
 
 
 class Request:
-    """Vectors that are wanted for an IMSI: `failure` has the RAND and the AUTS of a phone whose SQN is ahead. Each of `after` is called
-    once it is over, that of who began it with the RANDs of vectors before the phone's SQN, where there are some after it now.
+    """Vectors that are wanted for an IMSI: `failure` has the RAND and the AUTS of a phone whose SQN is ahead. Each of `after` is
+    called once it is over, that of who began it with the RANDs of vectors before the phone's SQN, where there are some after it now.
     `lines` are those that came, `ends` how often the source ended while it was told this."""
 
     def __init__(self, imsi, count, failure=(), after=None):
@@ -67,7 +67,7 @@ class Asking:
 
     def stop(self):
         """Asks no more, and takes no answer."""
-        self.is_open = False
+        self.is_open, self.source.is_over = False, True
 
     def close(self):
         self.stop()

@@ -62,7 +62,7 @@ class Front:
         self.standby = self.watchdog = None  # where the log is in a store
         self.aside, self.census, self.attaches, self.soundness = Aside(self), Census(self), Attaches(self), Soundness(self)
         self.traffic = Traffic(self)
-        self.holding, self.coming = None, []  # where a source is asked, what is held; what lines of provisioning have that are on their way to the MME
+        self.coming, self.holding = [], None  # lines of provisioning on their way to the MME; messages held for vectors
         self.asking = Asking(self, settings.source, settings.add) if settings.source else None
         self.is_over, self.is_busy = False, False
         self.known, self.begun = set(), 0  # IMSIs of the head and of lines that are played; how many the head began with

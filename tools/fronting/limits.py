@@ -58,8 +58,8 @@ MOST_SUBSCRIBERS, MOST_UNSPENT = 32768, 64  # that an MME has, and vectors of ea
 LEAST_STOCK, FULL_STOCK, AT_ONCE, MOST_STOCKING = 3, 5, 2, 8
 # Octets of a line that it tells, of one that it says, and of a read; lines that it says a second; lines that aren't taken in a row.
 LONGEST_SUPPLIED, LONGEST_SAID, SOURCE_PIECE, SOURCE_FAULTS, MOST_WRONG = 256, 1000, 1 << 13, 20, 100
-# Seconds of rest after its end, at first and at most, and where somebody waits; ends at a request, after which it isn't told it again;
-# seconds that it may take for an answer, and until it is asked again.
+# Seconds of rest after its end, at first and at most, and where somebody waits; ends at a request, after which it isn't told that
+# again; seconds that it may take for an answer, and until it is asked again.
 SOURCE_PAUSES, SHORT_PAUSE, MOST_ENDS, SUPPLY_SECONDS, LATER_SECONDS = (0.1, 30), 0.5, 3, 10, 30
 HELD_SECONDS, HELD_OCTETS = 2, 1 << 16  # that a message is held for vectors, and of all that are held of a station
 MOST_ASKING = 16  # connections to the control socket at a time
@@ -90,8 +90,9 @@ LIMITS = """limits of a station:
   %d s for a message that has begun, and %d s (--setup-seconds) from the connection to the answer to S1 SETUP; otherwise the
   connection ends
   %d octets that wait for the station to read them; beyond them the connection ends
+  %d octets that are held for vectors (--source); beyond them messages go as they are
   %d connections from one address (--per-address), only from addresses of --allow if it is given; a further one is closed at once
 Stations take turns, so a flood from one delays another's message by less than %g s. There are at most %d stations; a further
 connection is closed at once. A faulty connection ends, and no other with it.""" % (
-    LONGEST_MESSAGE, runs.LONGEST_LINE, RATE, OCTETS, PATIENCE, SETUP_SECONDS, MOST_WAITING, PER_ADDRESS, MOST_DELAY,
-    runs.STATIONS)
+    LONGEST_MESSAGE, runs.LONGEST_LINE, RATE, OCTETS, PATIENCE, SETUP_SECONDS, MOST_WAITING, HELD_OCTETS,
+    PER_ADDRESS, MOST_DELAY, runs.STATIONS)

@@ -10,6 +10,7 @@ import time
 
 from tools.fronting import limits
 from tools.fronting.faults import Failed, WRONG, told
+from tools.fronting.lines import Lines
 from tools.fronting.pace import Pace
 
 # What may be keys in its words, and is no IMSI.
@@ -17,22 +18,6 @@ KEYS = re.compile(r"(?<![0-9a-fA-F])(?!\d{14,15}(?![0-9a-fA-F]))[0-9a-fA-F]{8,}"
 HIDDEN = ".."
 TOO_MUCH = "the source says a line of more than %d octets" % limits.LONGEST_SAID
 LAST_PIECES = 64  # that are read of one that has ended; what it began may write for ever
-
-
-class Lines:
-    """Takes lines out of pieces as they come; one that is too long is None."""
-
-    def __init__(self, longest):
-        self.longest, self.rest, self.is_too_long = longest, b"", False
-
-    def take(self, piece):
-        """The lines that have come to their end."""
-        *lines, self.rest = (self.rest + piece).split(b"\n")
-        if lines and self.is_too_long:
-            lines[0], self.is_too_long = None, False
-        if len(self.rest) > self.longest:
-            self.rest, self.is_too_long = b"", True
-        return [line if line is None or len(line) <= self.longest else None for line in lines]
 
 
 class Source:
@@ -60,6 +45,8 @@ class Source:
     def begin_again(self):
         """Begins it after a pause."""
         self.timer = None
+        if self.is_over:
+            return
         try:
             self.start()
         except OSError as fault:
@@ -97,7 +84,7 @@ class Source:
         """It is begun again after a pause, which grows until it has supplied something."""
         self.ends += 1
         if not self.is_over:
-            self.say_fault("%s, and is begun again in %g s" % (why, self.pause))
+            self.voice.say("source_ends", "the source %s, and is begun again in %g s" % (why, self.pause))
             self.begin_in(self.pause)
             self.pause = min(2 * self.pause, limits.SOURCE_PAUSES[1])
             self.ended()
@@ -118,13 +105,13 @@ class Source:
     def is_wrong(self, why):
         """It tells a line that isn't taken; after many it is ended."""
         self.wrong += 1
-        self.say_fault(why)
+        self.say("source_fault", "the source %s" % why)
         if self.wrong == limits.MOST_WRONG:
             self.end("tells only what can't be taken, and is ended")
 
     def end(self, why):
         """Ends one that is of no use, which is begun again."""
-        self.say_fault(why)
+        self.voice.say("source_fault", "the source %s" % why)
         if self.process is not None:
             self.kill(self.process)
 
@@ -195,10 +182,6 @@ class Source:
         for line in self.words_said.take(piece):
             self.say("source", TOO_MUCH if line is None else KEYS.sub(HIDDEN, line.decode(errors="replace")))
         return bool(piece)
-
-    def say_fault(self, why):
-        """Says what is wrong with it."""
-        self.say("source_fault", "the source %s" % why)
 
     def say(self, event, text):
         """Says something, of which so much a second is said."""
