@@ -7,20 +7,24 @@ import shlex
 import signal
 import subprocess
 import time
+import types
 import unittest
+import unittest.mock
 import urllib.request
 
 from bench.etcds import free_port
 from reference import lte
 from tests.tools import fronted, tools
 from tests.tools.asked import NETWORK, PATIENT, STANDING_IN, Laboratory
+from tests.tools.fronted import IMSI
 from tests.tools.handsets import GAVE_UP, REGISTERED, Handset, Radio
 from tools import s1ap
-from tools.fronting import limits
+from tools.fronting import asking, keys, limits, provisioning, stock
 
 NO_VECTOR, NOBODY = "rejected 17", "rejected 8"
 NOBODYS_GUTI = bytes.fromhex("f600f11080010200010001")  # of another MME code
 AHEAD = 1 << 20
+OTHERS = ["001010000000002", "001010000000003"]
 POOL = "--add", "10.45.0.1", "10.45.0.0/24"
 KEY = re.compile("[0-9a-f]{32}")
 
@@ -428,6 +432,108 @@ class Odd(Asked):
         os.kill(lab.running.source(), signal.SIGKILL)
         lab.running.until(lambda: "The source of vectors doesn&#x27;t run." in get(""))
         self.assertEqual(lab.running.stop()[0], 0)
+
+
+class Requests(unittest.TestCase):
+    """The order of requests, by a source that is told them here."""
+
+    def setUp(self):
+        self.head = provisioning.Head(fronted.HEAD.splitlines() + ["sub %s 0a00000%d 0a000064 0000000%d" % (imsi, at, at)
+                                                                   for at, imsi in enumerate(OTHERS, 2)])
+        self.told, self.said, self.put, self.timers, self.over = [], [], [], [], []
+        batch = types.SimpleNamespace(has_further=False, after=[])
+        self.front = types.SimpleNamespace(
+            head=self.head, stock=stock.Stock(self.head, None), form=keys.Whole(), coming=[], voice=None,
+            loop=types.SimpleNamespace(after=lambda seconds, act: self.timers.append((seconds, act))),
+            used=types.SimpleNamespace(check_vector=lambda *given: None),
+            exchange=types.SimpleNamespace(put=self.put.append, keep_unknown=lambda imsis: None, batch=batch))
+        self.asking = asking.Asking(self.front, ["source"])
+        self.asking.source = types.SimpleNamespace(
+            is_there=True, tell=self.told.append, say=lambda event, text: self.said.append(text), is_wrong=self.said.append,
+            end=self.said.append, useful_at=0.0, is_of_use=lambda: None, hurry=lambda: None)
+        self.asking.is_open, self.asking.network = True, ["001", "01"]
+
+    def want(self, imsi, *failure):
+        self.asking.want(imsi, lambda stale: self.over.append((imsi, stale)), failure)
+
+    def answer(self, imsi, *numbers):
+        for number in numbers:
+            self.asking.take("vec %s %032x %032x %016x %064x" % (imsi, number, number, number, number))
+
+    def test_together(self):
+        """Who waits for the same phone is served by one request, also by one that nobody waited for."""
+        self.asking.note(0)
+        for imsi in (IMSI, OTHERS[0], OTHERS[0]):
+            self.want(imsi)
+        self.assertEqual(self.told, ["vectors %s 5 001 01" % IMSI, "vectors %s 2 001 01" % OTHERS[0]])
+        self.assertEqual(self.asking.stocking, 0)
+        self.answer(OTHERS[0], 1, 2)
+        self.assertEqual(self.over, [(OTHERS[0], [])] * 2)
+        self.answer(IMSI, 1, 2, 3, 4)
+        self.assertEqual((len(self.over), self.put[2:]), (2, []))
+        self.answer(IMSI, 5)
+        self.assertEqual((self.over[2:], len(self.put)), ([(IMSI, [])], 7))
+
+    def test_after_a_failure(self):
+        """A phone's AUTS is told after what was asked for it before; what came by then is from before its SQN."""
+        self.asking.note(0)
+        self.want(IMSI, b"r" * 16, b"a" * 14)
+        self.assertEqual(self.told, ["vectors %s 5 001 01" % IMSI])
+        self.answer(IMSI, 1, 2, 3, 4, 5)
+        self.assertEqual(self.told[1:], ["vectors %s 2 001 01 %s %s" % (IMSI, "72" * 16, "61" * 14)])
+        self.answer(IMSI, 6, 7)
+        [(imsi, stale)] = self.over
+        self.assertEqual((imsi, sorted(stale)), (IMSI, [number.to_bytes(16, "big") for number in range(1, 6)]))
+
+    def test_nothing_after_a_failure(self):
+        """Where nothing comes after an AUTS, none counts as from before."""
+        self.want(IMSI, b"r" * 16, b"a" * 14)
+        self.asking.take("later " + IMSI)
+        self.assertEqual(self.over, [(IMSI, [])])
+
+    def test_ends(self):
+        """After the source ended requests are told one at a time, others first; at the third end one is over."""
+        for imsi in OTHERS:
+            self.want(imsi)
+        self.asking.has_ended()
+        del self.told[:]
+        self.asking.tell()
+        self.want(IMSI)
+        self.assertEqual(self.told, ["vectors %s 2 001 01" % OTHERS[0]])
+        for times in range(2):
+            self.asking.has_ended()
+            self.asking.tell()
+        self.assertEqual([line.split(" ")[1] for line in self.told], [OTHERS[0], IMSI, OTHERS[1]])
+        self.asking.take("later " + OTHERS[1])
+        self.assertEqual(self.over[-1], (OTHERS[1], []))
+        self.asking.has_ended()
+        self.assertEqual(self.over[-1], (OTHERS[0], []))
+        self.assertIn("the source supplies no vectors for IMSI %s: it ends at the request" % OTHERS[0], self.said)
+        self.answer(IMSI, 1, 2)
+        self.assertEqual(self.over[-1], (IMSI, []))
+        self.assertEqual((self.asking.under_way, self.asking.suspected, self.asking.told), ({}, 0, 0))
+
+    def test_late(self):
+        """One that isn't answered is over, and so is a source that answers nothing; it is asked again later."""
+        self.want(IMSI)
+        self.asking.look(time.monotonic() + limits.SUPPLY_SECONDS + 1)
+        self.assertEqual(self.over, [(IMSI, [])])
+        self.assertIn("has answered nothing for 10 s, and is ended", self.said)
+        [(seconds, act)] = self.timers
+        self.assertEqual(seconds, limits.LATER_SECONDS)
+        act()
+        self.assertEqual(self.told, ["vectors %s 2 001 01" % IMSI, "vectors %s 5 001 01" % IMSI])
+        self.answer(OTHERS[0], 1)
+        self.assertEqual(self.said[-1], "tells of an IMSI that it wasn't asked for")
+
+    def test_not_too_many(self):
+        """Of those that nobody waits for, so many are under way at a time; the next comes once one is over."""
+        with unittest.mock.patch.object(limits, "MOST_STOCKING", 2):
+            for slot in range(3):
+                self.asking.note(slot)
+            self.assertEqual([line.split(" ")[1] for line in self.told], [IMSI, OTHERS[0]])
+            self.asking.take("unknown " + OTHERS[0])
+            self.assertEqual([line.split(" ")[1] for line in self.told[2:]], [OTHERS[1]])
 
 
 class Alone(Asked):
