@@ -1,21 +1,23 @@
 """tools/front that asks a source for vectors: who has none waits and is let in, stocks, phones whose SQN is ahead, who is added, a
 source that is slow, dead or wrong, and a log that is taken up. The MME is a stand-in here; tests/library has the library's."""
+import contextlib
 import json
 import os
 import re
 import shlex
 import signal
 import subprocess
+import tempfile
 import time
 import types
 import unittest
 import unittest.mock
 import urllib.request
 
-from bench.etcds import free_port
+from bench.etcds import MISSING, PROGRAM as ETCD, Members, free_port
 from reference import lte
 from tests.tools import fronted, tools
-from tests.tools.asked import NETWORK, PATIENT, STANDING_IN, Laboratory
+from tests.tools.asked import NETWORK, PATIENT, STANDING_IN, Asking, Laboratory
 from tests.tools.fronted import IMSI
 from tests.tools.handsets import GAVE_UP, REGISTERED, Handset, Radio
 from tools import s1ap
@@ -31,6 +33,12 @@ KEY = re.compile("[0-9a-f]{32}")
 
 def initial(octets):
     return octets[1] == s1ap.INITIAL_UE
+
+
+class StandingBy(Asking):
+    """A front beside a store, until it leads."""
+
+    READY = rb"follows the log in the store|" + Asking.READY
 
 
 class Asked(unittest.TestCase):
@@ -400,7 +408,6 @@ class Odd(Asked):
                            (("--library", "--source", "'"), "--source: No closing quotation"),
                            (("--library", "--source", ""), "--source has a program"),
                            (("--library", "--source", "cat", "--log-keys", "no"), "--log-keys no doesn't go with --source"),
-                           (("--library", "--source", "cat", "--store", "http://127.0.0.1:1"), "--store doesn't go with --source"),
                            (("--library", "--source", "cat", "--add", "x", "10.0.0.0/8"), "--add: Expected 4 octets in"),
                            (("--library", "--source", "cat", "--add", "10.0.0.1", "10.0.0.1/8"), "--add: 10.0.0.1/8 has")):
             with self.subTest(more=more):
@@ -432,6 +439,35 @@ class Odd(Asked):
         os.kill(lab.running.source(), signal.SIGKILL)
         lab.running.until(lambda: "The source of vectors doesn&#x27;t run." in get(""))
         self.assertEqual(lab.running.stop()[0], 0)
+
+
+@unittest.skipUnless(ETCD, MISSING)
+class InAStore(Asked):
+    """Where the log is in etcd."""
+
+    def test_standby(self):
+        """Once the leader is killed, the standby leads with all that was supplied and added, begins its own source, and asks for what
+        it lacks; no RAND comes twice."""
+        members = Members(self.enterContext(contextlib.ExitStack()))
+        store = "--store", members.urls(), *POOL
+        lab = self.laboratory(2, *store, provisioned=False, oddities=None)
+        other = fronted.pathlib.Path(self.enterContext(tempfile.TemporaryDirectory()))
+        for name in ("sims", "sqns"):
+            (other / name).symlink_to(lab.folder / name)
+        first, second = lab.phones
+        self.assertEqual(first.attaches(), REGISTERED)
+        standby = StandingBy(self, other, *store, "--standby", head=lab.head, oddities=None, front=self.patient)
+        standby.until(lambda: "vectors_left=5" in standby.asks("phones"))
+        lab.running.process.kill()
+        standby.until(lambda: b"ready: stations" in standby.said())
+        standby.is_ready(fronted.re.search(fronted.Running.READY, standby.said())[0])
+        lab.radio = Radio(standby)
+        for phone in lab.phones:
+            phone.radio, phone.b = lab.radio, None
+            self.assertEqual([phone.attaches() for _ in range(6)], [REGISTERED] * 6)
+        heard = [rand for phone in (first, second) for rand in phone.heard]
+        self.assertEqual((len(heard), len(set(heard))), (13, 13))
+        self.assertEqual(standby.stop()[0], 0)
 
 
 class Requests(unittest.TestCase):

@@ -95,9 +95,8 @@ def read_source(given):
         return
     if not given.library:
         raise runs.Fault("--source goes with --library: a program takes no vectors while it runs")
-    for word, is_other in (("--log-keys no", given.log_keys == NO), ("--store", given.store is not None)):
-        if is_other:
-            raise runs.Fault("%s doesn't go with --source, whose vectors stand with their keys in a log in files" % word)
+    if given.log_keys == NO:
+        raise runs.Fault("--log-keys no doesn't go with --source, whose vectors have their keys in the log alone")
     given.source = words_of(given.source)
     given.add = pool_of(*given.add) if given.add else None
 
