@@ -74,10 +74,11 @@ class Handset:
         self.radio, self.imsi, self.card, self.capability = radio, imsi, card, capability
         self.outcomes, self.heard, self.b, self.m, self.key, self.tmsi = [], [], None, None, None, None
         self.up_count = self.failures = 0
+        self.is_registered, self.answer = False, None  # by its last attach; to its last challenge
 
     def begins(self, identity=None):
         """Asks to attach, by its IMSI or by another identity."""
-        self.failures = 0
+        self.failures, self.is_registered = 0, False
         self.b, esm = self.radio.new_id(self), lte.pdn_connectivity_request(1, 1, False)
         nas = lte.attach_request(1, identity or lte.imsi_identity(self.imsi), self.capability, esm)
         self.radio.send(lte.initial_ue_message(self.radio.network, self.radio.station, self.b, nas))
@@ -119,6 +120,9 @@ class Handset:
             self.is_accepted(s1ap.inside(nas))
 
     def is_challenged(self, rand, autn):
+        if self.heard[-1:] == [rand]:
+            self.says(self.answer)  # it comes again, and is answered as before (TS 24.301 clause 5.4.2.3)
+            return
         self.heard.append(rand)
         how, answer = self.card.answer(rand, autn)
         if how != "res":
@@ -126,15 +130,19 @@ class Handset:
             if self.failures == MOST_FAILURES:
                 self.outcomes.append(GAVE_UP)
             else:
-                self.says(FAILURE + answer)
+                self.answer = FAILURE + answer
+                self.says(self.answer)
             return
         kasme = self.card.made(rand, self.card.sqn_of(rand, autn))[2]
         self.key, self.up_count = lte.Cmac(lte.nas_integrity_key(kasme)), 0
-        self.says(lte.authentication_response(answer))
+        self.answer = lte.authentication_response(answer)
+        self.says(self.answer)
 
     def is_accepted(self, nas):
         self.radio.send(lte.context_setup_response(self.radio.station, self.m, self.b))
         self.says_protected(lte.ATTACH_COMPLETE)
-        self.outcomes.append(REGISTERED)
+        if not self.is_registered:  # (an ATTACH ACCEPT may come again)
+            self.outcomes.append(REGISTERED)
+        self.is_registered = True
         at = nas.index(b"\x50\x0b\xf6")  # GUTI as an optional element (TS 24.301 clause 8.2.1)
         self.tmsi = int.from_bytes(nas[at + 9:at + 13], "big")

@@ -28,7 +28,7 @@ NOBODYS_GUTI = bytes.fromhex("f600f11080010200010001")  # of another MME code
 AHEAD = 1 << 20
 OTHERS = ["001010000000002", "001010000000003"]
 POOL = "--add", "10.45.0.1", "10.45.0.0/24"
-KEY = re.compile("[0-9a-f]{32}")
+KEY, LEFT = re.compile("[0-9a-f]{32}"), re.compile(r"vectors_left=(\d+)")
 
 
 def initial(octets):
@@ -168,8 +168,9 @@ class Held(Asked):
             lab.radio.send(octets)
         self.assertEqual(other.attaches(), REGISTERED)
         fits = (1 << 16) // len(many[-1])
-        lab.running.until(lambda: lab.radio.hears() and len(lab.radio.got) > 1500 - fits - 200)
-        self.assertEqual({s1ap.carried(s1ap.read(octets))[:3] for octets in lab.radio.got[1:]}, {b"\x07\x44\x11"})
+        lab.running.until(lambda: lab.radio.hears() and len(lab.radio.got) > 1500 - fits)
+        carried = [s1ap.carried(s1ap.read(octets)) for octets in lab.radio.got[1:]]
+        self.assertEqual({nas[:3] for nas in carried if nas}, {b"\x07\x44\x11"})
         self.assertEqual(lab.running.stop()[0], 0)
 
     def test_beside_a_give(self):
@@ -215,7 +216,7 @@ class Ahead(Asked):
     @staticmethod
     def is_stocked(lab):
         """The first phone has some vectors again."""
-        lab.running.until(lambda: int(lab.running.asks("phones").splitlines()[0].rpartition("=")[2]) > 2)
+        lab.running.until(lambda: int(LEFT.search(lab.running.asks("phones"))[1]) > 2)
 
     def test_by_much(self):
         """The challenge after cause 21 is right, whatever the MME had before; no vector from before its SQN is heard."""
