@@ -131,8 +131,8 @@ class Lab(unittest.TestCase):
         """In a folder of their own, by TCP at another port: the SIM of step 1 attaches."""
         text, port, folder = test_lab.DOCUMENT.read_text(), test_lab.free_port(), self.enterContext(tempfile.TemporaryDirectory())
         [own] = [block for block in test_lab.blocks(text) if "--library" in block]
-        commands = "\n".join([*test_lab.blocks(text.partition("## 2.")[0]), own.replace("--library", "--library --tcp --port %d" % port)])
-        commands = commands.replace("lab=$(mktemp -d)", "lab=" + folder)
+        own = own.replace("--library", "--library --tcp --port %d" % port)
+        commands = "\n".join([*test_lab.blocks(text.partition("## 2.")[0]), own]).replace("lab=$(mktemp -d)", "lab=" + folder)
         with subprocess.Popen(["bash", "-euc", commands], cwd=TOP, stderr=subprocess.PIPE, start_new_session=True) as running:
             try:
                 said = running.stderr.readline()

@@ -300,7 +300,7 @@ class Added(Asked):
         self.assertEqual(lab.phones[0].attaches(), REGISTERED)
 
     def test_taken_up(self):
-        """He stays where the log is taken up, though no file has him, and nothing is asked for twice; the next has another address."""
+        """He stays where the log is taken up, though no file has him, and nothing is asked for twice. The next is another one."""
         lab = self.laboratory(3, *POOL, "--resume", provisioned=False)
         lab.attach(lab.phones[:2])
         lab.running.until(lambda: lab.running.asks("phones").count("vectors_left=5") == 2)
@@ -326,7 +326,8 @@ class Odd(Asked):
     def test_wrong(self):
         """What can't be taken is refused in words, without keys, and counted; others are served."""
         words = {"other": b"tells of an IMSI that it wasn't asked for", "garbage": b"tells a line that is no answer",
-                 "long": b"tells a line of more than 256 octets", "cut": b"tells what can't be taken for IMSI 001010000000001: RAND",
+                 "long": b"tells a line of more than 256 octets",
+                 "cut": b"tells what can't be taken for IMSI 001010000000001: RAND",
                  "unknown": b"supplies no vectors for IMSI 001010000000001: it doesn't know it",
                  "later": b"supplies no vectors for IMSI 001010000000001: it says `later`"}
         taken = {"garbage", "long", "cut"}
@@ -447,8 +448,8 @@ class InAStore(Asked):
     """Where the log is in etcd."""
 
     def test_standby(self):
-        """Once the leader is killed, the standby leads with all that was supplied and added, begins its own source, and asks for what
-        it lacks; no RAND comes twice."""
+        """Once the leader is killed, the standby leads with all that was supplied and added, begins its own source, and asks for
+        what it lacks; no RAND comes twice."""
         members = Members(self.enterContext(contextlib.ExitStack()))
         store = "--store", members.urls(), *POOL
         lab = self.laboratory(2, *store, provisioned=False, oddities=None)

@@ -28,7 +28,7 @@ def wanted_of(imsi, count, network, *failure):
 
 class Request:
     """Vectors that are wanted for an IMSI: `failure` has the RAND and the AUTS of a phone whose SQN is ahead. Each of `after` is
-    called once it is over, that of who began it with the RANDs of vectors before the phone's SQN, where there are some after it now.
+    called once it is over, that of who began it with the RANDs of vectors before the phone's SQN, where there are others now.
     `lines` are those that came, `ends` how often the source ended while it was told this."""
 
     def __init__(self, imsi, count, failure=(), after=None):
