@@ -320,6 +320,30 @@ class Added(Asked):
         self.assertEqual(lab.running.stop()[0], 0)
 
 
+    def test_given_too(self):
+        """What was given beside stands in the log as well, whether or not the file has it then; what the file has more is given."""
+        lab, sub = self.laboratory(1, "--resume"), "sub 00102000000000%d 0b00000%d 0a000064 0000010%d\n"
+        [phone] = lab.phones
+        self.assertEqual(phone.attaches(), REGISTERED)
+        (lab.folder / "given").write_text(sub % (1, 1, 1))
+        self.assertEqual(lab.running.asks("give", lab.folder / "given"), "given 1 subscriber, 0 vectors\n")
+        self.assertEqual(phone.attaches(), REGISTERED)
+        for more, count in (("", 2), (sub % (1, 1, 1), 2), (sub % (1, 1, 1) + sub % (2, 2, 2), 3)):
+            with self.subTest(count=count, more=bool(more)):
+                lab.running.process.kill()
+                lab.running.ended()
+                lab.begin(head=lab.head + more)
+                self.assertIn(b"goes on", lab.running.told)
+                lab.running.until(lambda count=count: lab.running.asks("phones").count("vectors_left") == count)
+                self.assertEqual(phone.attaches(), REGISTERED)
+        self.assertEqual(len(phone.heard), len(set(phone.heard)))
+        lab.running.process.kill()
+        lab.running.ended()
+        status, told = Asking(self, lab.folder, "--resume", front=self.patient,
+                              head=lab.head.replace("0a000001 0a000064", "0a000009 0a000064")).ended()
+        self.assertEqual((status, "begins with other lines than" in told), (2, True), told)
+
+
 class Odd(Asked):
     """Sources that are slow, dead or wrong."""
 
