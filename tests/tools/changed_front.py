@@ -8,6 +8,7 @@
     ahead      its time of day is an hour later
     unheld     answers go out before their turn is committed, which has to be found
     unfenced   a turn is written whoever leads, which has to be found
+    waiting    messages are held longer for vectors, as tests have to on a machine with other work
     hanging    the loop turns no more once a station sends f5
 """
 import datetime
@@ -24,7 +25,7 @@ if __name__ == "__main__":
 from tools.fronting import command, crowd, exchange, limits, resuming, standby, stored
 
 SILENCE_SECONDS, SHORTER, UNCOMMITTED_SECONDS = 1, 0.3, 60
-HANGING_SECONDS = 1
+HANGING_SECONDS, HELD_SECONDS = 1, 30
 LINES_OCTETS, BRIEF_SECONDS = 100, 2
 
 
@@ -60,6 +61,10 @@ def unfenced():
     stored.Scheme.step = lambda self, *given: json.dumps({**json.loads(step(self, *given)), "compare": []}).encode()
 
 
+def waiting():
+    limits.HELD_SECONDS = HELD_SECONDS
+
+
 def hanging():
     limits.HANGING_SECONDS, put = HANGING_SECONDS, crowd.Crowd.put
 
@@ -71,7 +76,7 @@ def hanging():
     crowd.Crowd.put = hangs
 
 
-CHANGES = {change.__name__: change for change in (hurried, hasty, patient, brief, ahead, unheld, unfenced, hanging)}
+CHANGES = {change.__name__: change for change in (hurried, hasty, patient, brief, ahead, unheld, unfenced, waiting, hanging)}
 
 if __name__ == "__main__":
     while sys.argv[1] in CHANGES:

@@ -108,6 +108,26 @@ class Looked(unittest.TestCase):
         with self.assertRaisesRegex(runs.Fault, "line 64: %s would have 65 vectors" % IMSI):
             made.take(vector(IMSI, 200))
 
+    def test_on_their_way(self):
+        """What is on its way to the MME counts, until it is answered."""
+        coming, first = adding.Coming(), self.further()
+        for line in [SUB, vector(OTHER, 1), vector(IMSI, 9), *(vector(IMSI, number) for number in range(100, 161))]:
+            first.take(line)
+        coming.add(first)
+        others = (SUB, "stands already"), (SUB.replace("0a000002", "0a000003"), "has its line sub"), (
+            SUB.replace(OTHER, "001010000000003"), "has the address"), (vector(OTHER, 1, 2), "has a vector with this RAND"), (
+            vector(IMSI, 200), "would have 65 vectors")
+        for line, why in others:
+            with self.subTest(why=why), self.assertRaisesRegex(runs.Fault, why):
+                made = adding.Further(self.head, stock.Stock(self.head, none), self.used, keys.Whole(), [coming])
+                made.take(vector(OTHER, 2))
+                made.take(line)
+        coming.remove(first)
+        self.assertEqual([*coming.sets, +coming.vectors], [set()] * 4 + [{}])
+        made = adding.Further(self.head, stock.Stock(self.head, none), self.used, keys.Whole(), [coming])
+        for line in (SUB, vector(OTHER, 1), vector(IMSI, 9)):
+            made.take(line)
+
     def test_too_many(self):
         """There are so many subscribers at most."""
         made = self.further()
@@ -291,7 +311,7 @@ class Whole(unittest.TestCase):
         self.exchange.begin(lambda *given: LibraryMme(package, *given), self.head)
         self.front = types.SimpleNamespace(
             loop=self.loop, exchange=self.exchange, head=self.head, stock=stock.Stock(self.head, none), form=keys.Whole(), given=0,
-            used=types.SimpleNamespace(check_vector=none), giving=None,
+            used=types.SimpleNamespace(check_vector=none), giving=None, coming=[], asking=None,
             voice=types.SimpleNamespace(say=lambda event, text: self.said.append((event, text))),
             teller=types.SimpleNamespace(refuse=lambda: self.said.append("refuse")))
         self.exchange.lengthen = lambda lines: [self.head.add(line) for line in lines]

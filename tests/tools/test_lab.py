@@ -1,6 +1,6 @@
 """The commands of docs/LAB.md, in their order, by the names of the package: in a clone, and with the files of the package laid out.
 In the program's place stands what reference/phones.py says that an MME owes; those of the live station and of the package need the
-program, and are tried where it is built. Those by which a phone gets to the Internet are tried under a kernel of their own
+program, and are tried where it is built; those with the library are tried in tests/library/test_asking.py. Those by which a phone gets to the Internet are tried under a kernel of their own
 (gateway_inside.py), and here those of nftables, by packets (outward.py)."""
 import contextlib
 import pathlib
@@ -168,7 +168,8 @@ class Lab(unittest.TestCase):
         until the station has its answers."""
         text, port = DOCUMENT.read_text(encoding="utf-8"), str(free_port())
         live = LIVE.search(text)[0]
-        commands = "\0".join([*blocks(text.partition("## 4.")[0]), *blocks(live.partition(end)[0] if end else live), *more])
+        found = [*blocks(text.partition("## 4.")[0]), *blocks(live.partition(end)[0] if end else live), *more]
+        commands = "\0".join(block for block in found if "--library" not in block)
         for before, after in (("--tcp", "--tcp --port " + port), ("36412", port), ("127.0.0.1:9101", "127.0.0.1:0"),
                               ("sleep 2", HAS_HEARD % 5), ("sleep 1", HAS_HEARD % 6)):
             self.assertIn(before, text)

@@ -27,6 +27,7 @@ FORM = re.compile("sub ([0-9]{14,15}) (H{8})(?: H{8}){2}|vec ([0-9]{14,15}) (H{3
 # What is said of another, and nothing of what it has, since that may be keys, also where it begins with them.
 LENGTHS = {"sub": "an IMSI has 14 or 15 digits, and an address, an S-GW's address and its tunnel end have 8 in hex each",
            "vec": "an IMSI has 14 or 15 digits, RAND and AUTN have 16 octets in hex, XRES 4 to 16, and KASME 32"}
+RAND_DIGITS = 32
 TOO_MANY = "%s would have %d vectors that aren't spent or answered yet, and has %d at most"
 
 
@@ -57,15 +58,42 @@ def found_in(line):
     return found.groups()
 
 
-class Further:
-    """Lines that are to be given, each looked at as one that comes after those before it: `lines` has those that aren't comments,
-    `imsis` the IMSIs of new subscribers, and `seen` each line by its IMSI, a vector's by its IMSI and RAND. (That is a dict of
-    strings alone, through which Python doesn't go when it looks for what isn't used any more.)"""
+class Coming:
+    """What lines of provisioning have that are on their way to the MME: the IMSIs and addresses of subscribers, how many vectors each
+    IMSI has, and `seen`, each line by its IMSI, a vector's by its IMSI and RAND. (That is a dict of strings alone, through which
+    Python doesn't go when it looks for what isn't used any more.)"""
 
-    def __init__(self, head, stock, used, form):
-        self.head, self.stock, self.used, self.form = head, stock, used, form.further()
-        self.number, self.lines = 0, []
+    def __init__(self):
         self.imsis, self.places, self.seen, self.vectors = set(), set(), {}, collections.Counter()
+
+    def add(self, other):
+        """What another has comes too."""
+        self.imsis |= other.imsis
+        self.places |= other.places
+        self.seen.update(other.seen)
+        self.vectors += other.vectors
+
+    def remove(self, other):
+        """What another has, and nobody else, is there."""
+        self.imsis -= other.imsis
+        self.places -= other.places
+        for name in other.seen:
+            self.seen.pop(name, None)
+        self.vectors -= other.vectors
+
+    def rands_of(self, imsi):
+        """The RANDs of the vectors of an IMSI, as digits."""
+        return [name[len(imsi):] for name in self.seen if name.startswith(imsi) and len(name) == len(imsi) + RAND_DIGITS]
+
+
+class Further(Coming):
+    """Lines that are to be given, each looked at as one that comes after those before it, and after `others` that are on their way
+    to the MME: `lines` has those that aren't comments, `imsis` the IMSIs of new subscribers."""
+
+    def __init__(self, head, stock, used, form, others=()):
+        super().__init__()
+        self.head, self.stock, self.used, self.form = head, stock, used, form.further()
+        self.number, self.lines, self.all = 0, [], [self, *others]
 
     def take(self, line):
         """Takes one more line; a fault where it can't be given."""
@@ -84,7 +112,7 @@ class Further:
     def look_at(self, line):
         imsi, address, of_vector, rand = found_in(line)
         name = imsi or of_vector + rand.lower()
-        if line in self.head.known or self.seen.get(name) == line:
+        if line in self.head.known or any(one.seen.get(name) == line for one in self.all):
             raise runs.Fault("it stands already")
         if imsi:
             self.look_at_subscriber(imsi, address.lower())
@@ -92,11 +120,19 @@ class Further:
             self.look_at_vector(of_vector, rand.lower(), line)
         self.seen[name] = line
 
+    def stands(self, name, what):
+        """Whether something is among what these lines have, or others on their way."""
+        return any(what in getattr(one, name) for one in self.all)
+
+    def has(self, imsi):
+        """Whether there is a subscriber with an IMSI, or comes before."""
+        return imsi in self.head.slots or self.stands("imsis", imsi)
+
     def look_at_subscriber(self, imsi, address):
         """Whether another has the IMSI or the address, and there is room for one more."""
-        if imsi in self.head.slots or imsi in self.imsis:
+        if self.has(imsi):
             raise runs.Fault("%s has its line sub" % imsi)
-        if address in self.head.places or address in self.places:
+        if address in self.head.places or self.stands("places", address):
             raise runs.Fault("another subscriber has the address %s" % address)
         if len(self.head.imsis) + len(self.imsis) >= limits.MOST_SUBSCRIBERS:
             raise runs.Fault("there are %d subscribers, and no more than that" % limits.MOST_SUBSCRIBERS)
@@ -106,20 +142,23 @@ class Further:
     def look_at_vector(self, imsi, rand, line):
         """Whether its subscriber is there, has room for it and none like it, and it wasn't used."""
         slot = self.head.slots.get(imsi)
-        if slot is None and imsi not in self.imsis:
+        if not self.has(imsi):
             raise runs.Fault("%s has no line sub" % imsi)
         self.used.check_vector(imsi, rand)
         self.vectors[imsi] += 1
-        count = self.vectors[imsi] + (self.stock.most_unspent(slot) if slot is not None else 0)
+        count = sum(one.vectors[imsi] for one in self.all) + (self.stock.most_unspent(slot) if slot is not None else 0)
         if count > limits.MOST_UNSPENT:
             raise runs.Fault(TOO_MANY % (imsi, count, limits.MOST_UNSPENT))
         self.form.add(line)
-        if imsi + rand in self.seen or slot is not None and self.stock.place_of(slot, bytes.fromhex(rand)) is not None:
+        if self.stands("seen", imsi + rand) or slot is not None and self.stock.place_of(slot, bytes.fromhex(rand)) is not None:
             raise runs.Fault(SAME_RAND % imsi)
 
-    def end(self):
-        """No line comes any more: forgets what they are looked at with, since to forget all at once would take long."""
-        self.seen, self.form = {}, None
+    def end(self, are_others_asked_for):
+        """No line comes any more: forgets what they are looked at with, since to forget all at once would take long; but not what
+        others are looked at with, where a source supplies some meanwhile."""
+        self.form = None
+        if not are_others_asked_for:
+            self.seen = {}
 
 
 class Adding:
@@ -127,7 +166,8 @@ class Adding:
 
     def __init__(self, front, parts, reply):
         self.front, self.parts, self.reply = front, parts, reply
-        self.further = Further(front.head, front.stock, front.used, front.form)
+        self.further = Further(front.head, front.stock, front.used, front.form, front.coming)
+        front.coming.append(self.further)
         self.place = self.kept = 0  # how many lines were put, and how many of these are known to stand in the log
         self.timer, self.is_over, self.refused = None, False, []
 
@@ -144,7 +184,7 @@ class Adding:
         except runs.Fault as fault:
             self.end("fault %s" % fault)
             return
-        self.further.end()
+        self.further.end(self.front.asking is not None)
         self.front.exchange.keep_unknown(self.further.imsis)
         self.put()
 
@@ -194,6 +234,7 @@ class Adding:
 
     def end(self, answer):
         self.is_over, self.front.giving = True, None
+        self.front.coming.remove(self.further)
         if self.timer is not None:
             self.timer.cancel()
         word, _, why = answer.partition(" ")

@@ -6,6 +6,7 @@ import ipaddress
 import json
 import os
 import re
+import shlex
 import socket
 import sys
 import time
@@ -22,6 +23,7 @@ from tools.fronting.keys import NO, YES, Filling, read_vectors
 from tools.fronting.listening import ControlSocket, listener_of, page_listener_of
 from tools.fronting.locking import Lock
 from tools.fronting.page import Page
+from tools.fronting.pool import Pool
 from tools.fronting.provisioning import read_head
 from tools.fronting.saying import Voice
 from tools.fronting.segments import whole_series
@@ -45,6 +47,7 @@ def run(given):
         if given.anew and not given.resume:
             raise runs.Fault("--anew goes with --resume")
         read_store(given)
+        read_source(given)
         read_snapshot(given)
         octets = runs.read_file(given.subscribers)
         given.subscribers = "standard input" if given.subscribers == "-" else given.subscribers
@@ -86,12 +89,47 @@ def read_store(given):
     given.store = access_of(given.store.split(","), given.store_ca, given.store_cert, given.store_user, given.store_password)
 
 
+def read_source(given):
+    """The words on a source become its own words, and the pool of those who are added."""
+    if given.source is None:
+        if given.add:
+            raise runs.Fault("--add goes with --source")
+        return
+    if not given.library:
+        raise runs.Fault("--source goes with --library: a program takes no vectors while it runs")
+    if given.log_keys == NO:
+        raise runs.Fault("--log-keys no doesn't go with --source, whose vectors have their keys in the log alone")
+    given.source = words_of(given.source)
+    given.add = pool_of(*given.add) if given.add else None
+
+
+def words_of(text):
+    """A program and its words, as a shell parts them."""
+    try:
+        words = shlex.split(text)
+    except ValueError as fault:
+        raise runs.Fault("--source: %s" % fault) from None
+    if not words:
+        raise runs.Fault("--source has a program")
+    return words
+
+
+def pool_of(gateway, network):
+    """The pool behind a gateway, by its address and the phones' network."""
+    try:
+        return Pool(str(ipaddress.IPv4Address(gateway)), ipaddress.IPv4Network(network))
+    except ValueError as fault:
+        raise runs.Fault("--add: %s" % fault) from None
+
+
 def read_snapshot(given):
     """The words on snapshots become the rule by which they are made, and the file of their key."""
     for word in (word for word, value in (("--snapshot", given.snapshot), ("--snapshot-key", given.snapshot_key))
                  if value is not None and not given.library):
         raise runs.Fault("%s goes with --library" % word)
-    has_keys = given.store is None and given.log_keys == YES
+    if given.snapshot and given.source:
+        raise runs.Fault("--snapshot doesn't go with --source, whose vectors stand in the log alone")
+    has_keys = given.store is None and given.log_keys == YES and not given.source
     if given.snapshot and not has_keys:
         raise runs.Fault("--snapshot is of a log in files that keeps the vectors' keys, which a snapshot has too")
     if given.snapshot is None and given.library and has_keys:
@@ -348,6 +386,14 @@ def add_log(words):
                        help="the form of its messages on standard error")
 
 
+def add_source(words):
+    """The words on a source of vectors."""
+    words.add_argument("--source", metavar="WORDS", help="with --library: a program with its words, such as \"mme-vectors serve sims "
+                       "sqns\", that is asked for vectors")
+    words.add_argument("--add", nargs=2, metavar=("ADDRESS", "NETWORK"), help="with --source: provision who asks to attach and has "
+                       "vectors there, with an address of NETWORK and an S-GW at ADDRESS, as tools/gateway has both")
+
+
 def add_store(words):
     """The words on a log in a store."""
     words.add_argument("--store", metavar="URL,..", help="keep the log in etcd, by the members at these places, such as "
@@ -396,6 +442,7 @@ def parser(description):
                       help="the program to run, in place of the one beside this tool")
     mmes.add_argument("--library", action="store_true",
                       help="run the MME in the front's own process, by the library for C and Python, and start no program")
+    add_source(live)
     live.set_defaults(act=run)
     asking = ways.add_parser("ask", help="ask a front that runs", **form)
     asking.add_argument("control", metavar="CONTROL", help="its control socket")

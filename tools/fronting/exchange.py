@@ -48,6 +48,7 @@ class Exchange:
         self.held = collections.deque()  # what waits for the log: a turn, writes beside it, what is to be done then, and with what
         self.later = []  # what is done once the log takes the next turn
         self.note_challenge = lambda slot, rand: None  # who is told of each challenge, those that were sent before among them
+        self.passes_over = lambda slot, rand, station, octets: False  # who is told of each that is new; whether it goes to nobody
         self.note_context = lambda slot, station, octets: None  # who is told of each INITIAL CONTEXT SETUP REQUEST of a phone
         self.follow = lambda batch: None  # who is told of each batch that the MME is given
         self.note_settled = lambda batch: None  # who is told of each batch that is answered and kept
@@ -504,6 +505,8 @@ class Exchange:
             if rand is None:
                 continue
             self.note_challenge(slot, rand)
+            if self.passes_over(slot, rand, NUMBERS[number], octets):
+                messages[at] = message = (slot, number, None, octets, message[-1])
             if not challenges:
                 self.do(batch.turn, self.hand_on, messages[begun:at])
                 begun = at

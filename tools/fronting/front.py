@@ -10,6 +10,7 @@ import time
 from tools.fronting import limits
 from tools.fronting.adding import Adding, lines_in, parts_of as parts_of_lines
 from tools.fronting.aside import Aside
+from tools.fronting.asking import Asking
 from tools.fronting.attaches import Attaches
 from tools.fronting.census import Census
 from tools.fronting.control import OF_STANDBY, WORDS, Control
@@ -18,6 +19,7 @@ from tools.fronting.exchange import Exchange
 from tools.fronting.faults import BABBLES, LOG_FAILS, SILENT, WRONG, Ended, Failed, told
 from tools.fronting.followers import Followers
 from tools.fronting.giving import Giving
+from tools.fronting.holding import Holding
 from tools.fronting.journal import Journal
 from tools.fronting.keys import YES, Missing, form_of
 from tools.fronting.listening import begin_to_listen
@@ -62,6 +64,8 @@ class Front:
         self.standby = self.watchdog = None  # where the log is in a store
         self.aside, self.census, self.attaches, self.soundness = Aside(self), Census(self), Attaches(self), Soundness(self)
         self.traffic = Traffic(self)
+        self.coming, self.holding = [], None  # lines of provisioning on their way to the MME; messages held for vectors
+        self.asking = Asking(self, settings.source, settings.add) if settings.source else None
         self.is_over, self.is_busy = False, False
         self.known, self.begun = set(), 0  # IMSIs of the head and of lines that are played; how many the head began with
         self.resumed, self.given = 0, 0
@@ -153,7 +157,7 @@ class Front:
         if self.settings.library:
             head.prepare()
         self.saving.begin(head)
-        self.stock = Stock(head, self.has_few)
+        self.stock = Stock(head, self.has_few, limits.FEW_VECTORS if self.asking is None else limits.NEVER_FEW)
         if self.followers is not None:
             self.followers.lengthen()
         self.exchange.begin(make or self.make, head)
@@ -167,6 +171,8 @@ class Front:
         """A challenge uses a phone's vector."""
         if slot < len(self.stock.rands):
             self.stock.note(slot, rand)
+            if self.asking is not None:
+                self.asking.note(slot)
 
     def has_few(self, slot, left):
         """A phone has few vectors left."""
@@ -197,8 +203,7 @@ class Front:
         subscribers = self.head
         try:
             standing = standing_after(self) or Standing(self.settings.log)
-            facts = standing.facts
-            count, given = len(facts), self.used.after(facts, subscribers).facts
+            count, given = len(standing.facts), self.given_after(standing, subscribers)
             self.saving.leave_out(subscribers.facts, given)
             up = self.play(standing, self.head_after(standing, given))
             if self.is_over:
@@ -222,6 +227,14 @@ class Front:
             self.settings.log, "1 station was" if len(up) == 1 else "%d stations were" % len(up), seconds),
             stations=len(up), seconds=seconds)
         return given[count:]
+
+    def given_after(self, standing, subscribers):
+        """The lines of the subscribers' file, for a run that goes on after a log. What a source supplied stands in the log alone."""
+        facts = standing.head.facts
+        if self.asking is None:
+            return self.used.after(facts + standing.further, subscribers).facts
+        given, further = self.used.after(facts, subscribers).facts, set(standing.further)
+        return given[:len(facts)] + standing.further + [line for line in given[len(facts):] if line not in further]
 
     def not_resumed(self, fault):
         """The last run can't go on: ends with the status of what stays wrong, unless a run is to begin anew then."""
@@ -397,12 +410,21 @@ class Front:
             self.crowd.used = set(range(runs.STATIONS))
         self.exchange.note_context = self.attaches.accept
         self.exchange.note_settled = self.followers.bearers.take
+        if self.asking is not None:
+            self.begin_to_ask()
         self.crowd.listen(listener, link)
         self.tick_due = time.monotonic() + self.settings.second
         self.loop.after(self.settings.second, self.tick)
         self.care()
         if self.standby is None:
             self.is_ready()
+
+    def begin_to_ask(self):
+        """Begins the source of vectors; messages are held for what it supplies."""
+        self.holding = Holding(self, self.asking)
+        self.crowd.sift, self.crowd.let_go = self.holding.sift, self.holding.part
+        self.exchange.passes_over = self.holding.passes_over
+        self.asking.begin()
 
     def is_ready(self):
         """Tells the service manager that it does what it is for, and from now on that it still turns."""
@@ -467,6 +489,8 @@ class Front:
         self.exchange.look_after_log()
         self.saving.care(now)
         self.soundness.look()
+        if self.asking is not None:
+            self.asking.look(now)
         self.loop.after(CARE_SECONDS, self.care)
 
     def tell_manager(self):
@@ -512,7 +536,11 @@ class Front:
         isn't given again."""
         self.head.known.add(line)
         self.teller.refuse()
-        if self.giving is not None and not self.exchange.is_replaying:
+        if self.exchange.is_replaying:
+            return
+        if self.asking is not None and line in self.asking.coming.known:
+            self.asking.is_refused(number, line)
+        elif self.giving is not None:
             self.giving.is_refused(number, line)
 
     def give_more(self, lines):
@@ -541,6 +569,8 @@ class Front:
             return 0
         if self.giving is not None:
             self.giving.refuse("the front ends")
+        if self.asking is not None:
+            self.asking.stop()
         if self.crowd is not None:
             self.crowd.refuse()
             self.crowd.lose_all()
@@ -576,7 +606,7 @@ class Front:
                 self.crowd.send()
 
     def close(self):
-        for part in (self.control, self.page, self.crowd):
+        for part in (self.control, self.page, self.crowd, self.asking):
             if part is not None:
                 part.close()
         self.saving.stop()

@@ -29,7 +29,7 @@ ANSWER_SECONDS = 10  # without a word of the MME while an answer is due
 LAST_SECONDS = 5  # for it to end
 SENDING_SECONDS = 1  # for what waits to be sent at the end, and for an MME to end by a signal
 
-FEW_VECTORS = 3  # left of a phone, of which the front says so
+FEW_VECTORS, NEVER_FEW = 3, -1  # left of a phone, of which the front says so; where a source supplies more, it doesn't
 MOST_USED = 0.75  # part of the segments of a series, of which the front says so
 SEGMENT_SIZE, SEGMENTS = 64, 16  # MiB of a segment of the log, and how many are kept of each of its two series
 FULL_SECONDS = 60  # that a full disk may keep the stations waiting
@@ -54,6 +54,15 @@ LONGEST_GIVEN = 1 << 22  # octets of the lines that `give` has after its own
 # them.
 LONGEST_ADDED, ADDED_LINES, ADDED_OCTETS, ADDING_SECONDS = 1 << 26, 200, 1 << 14, 0.005
 MOST_SUBSCRIBERS, MOST_UNSPENT = 32768, 64  # that an MME has, and vectors of each
+# Of a source of vectors: those that a phone has unspent before it is asked, and after; those that one who waits is asked for;
+# requests under way for those who don't wait.
+LEAST_STOCK, FULL_STOCK, AT_ONCE, MOST_STOCKING = 3, 5, 2, 8
+# Octets of a line that it tells, of one that it says, and of a read; lines that it says a second; lines that aren't taken in a row.
+LONGEST_SUPPLIED, LONGEST_SAID, SOURCE_PIECE, SOURCE_FAULTS, MOST_WRONG = 256, 1000, 1 << 13, 20, 100
+# Seconds of rest after its end, at first and at most, and where somebody waits; ends at a request, after which it isn't told that
+# again; seconds that it may take for an answer, and until it is asked again.
+SOURCE_PAUSES, SHORT_PAUSE, MOST_ENDS, SUPPLY_SECONDS, LATER_SECONDS = (0.1, 30), 0.5, 3, 10, 30
+HELD_SECONDS, HELD_OCTETS = 2, 1 << 16  # that a message is held for vectors, and of all that are held of a station
 MOST_ASKING = 16  # connections to the control socket at a time
 ASKING_SECONDS = 60  # for one of them to say a whole line, and to read its answer
 GIVING_SECONDS = 120  # for the second MME to play the log
@@ -87,8 +96,9 @@ LIMITS = """limits of a station:
   %d s for a message that has begun, and %d s (--setup-seconds) from the connection to the answer to S1 SETUP; otherwise the
   connection ends
   %d octets that wait for the station to read them; beyond them the connection ends
+  %d octets that are held for vectors (--source); beyond them messages go as they are
   %d connections from one address (--per-address), only from addresses of --allow if it is given; a further one is closed at once
 Stations take turns, so a flood from one delays another's message by less than %g s. There are at most %d stations; a further
 connection is closed at once. A faulty connection ends, and no other with it.""" % (
-    LONGEST_MESSAGE, runs.LONGEST_LINE, RATE, OCTETS, PATIENCE, SETUP_SECONDS, MOST_WAITING, PER_ADDRESS, MOST_DELAY,
-    runs.STATIONS)
+    LONGEST_MESSAGE, runs.LONGEST_LINE, RATE, OCTETS, PATIENCE, SETUP_SECONDS, MOST_WAITING, HELD_OCTETS,
+    PER_ADDRESS, MOST_DELAY, runs.STATIONS)

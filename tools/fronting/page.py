@@ -134,7 +134,7 @@ def phone_row(front, slot):
     """A phone as the page lists it."""
     left = front.stock.left(slot)
     return [phone(front.head.imsis[slot]), front.head.address(slot), *front.census.of(slot).split(" "), place_of(front, slot),
-            marked("alarm", left) if left <= limits.FEW_VECTORS else left]
+            marked("alarm", left) if left <= front.stock.most_few else left]
 
 
 def tunnel_row(front, slot, gateways):

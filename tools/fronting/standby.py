@@ -111,16 +111,20 @@ class Standby:
         return Head(begun + self.gave)
 
     def check_own(self, lines, at):
-        """Refuses a subscribers' file that has other lines at a place than were given, as far as both go."""
+        """Refuses a subscribers' file that has other lines at a place than were given, as far as both go. What a source supplied
+        stands in the log alone."""
         own = self.own[at:at + len(lines)]
-        if lines[:len(own)] != own:
+        if self.front.asking is None and lines[:len(own)] != own:
             raise Failed("%s has other lines after those that %s begins with than were given" % (
                 self.front.settings.subscribers, LOG), WRONG)
 
     @property
     def more(self):
         """The lines of the subscribers' file that the log lacks."""
-        return self.own[len(self.gave) + len(self.further):]
+        if self.front.asking is None:
+            return self.own[len(self.gave) + len(self.further):]
+        given = {*self.gave, *self.further}
+        return [line for line in self.own if line not in given]
 
     def follow(self):
         """Plays what comes, until this front leads; the lines of provisioning that the log lacks."""

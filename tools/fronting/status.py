@@ -7,7 +7,7 @@ from tools.fronting.meters import OTHER, name_of
 
 PIECE = 500  # phones that are told of at a time
 ALARMS = "vectors", "what happened", "what counts", "log", "snapshots"  # what there are alarms of
-STORE = "store"  # and where the log is in a store
+STORE, SOURCE = "store", "source"  # and where the log is in a store, and a source is asked
 
 
 def stations(front):
@@ -81,9 +81,19 @@ def store(front):
             "store_octets": standby.room.size, "store_quota": standby.room.quota}
 
 
+def source(front):
+    """The source of vectors, the requests to it by their ends, and what is held for it; nothing where there is none."""
+    asking, holding = front.asking, front.holding
+    if holding is None:
+        return None
+    return {"runs": asking.source.is_there, "starts": asking.source.starts, "ends": asking.source.ends, "wrong": asking.wrong,
+            "vectors": asking.vectors, "requests": dict(asking.ended), "under_way": len(asking.under_way),
+            "held": dict(holding.counted), "held_octets": sum(holding.octets.values())}
+
+
 def counters(front):
     """All that is counted."""
-    meters, exchange, in_store = front.meters, front.exchange, store(front)
+    meters, exchange, in_store, asked = front.meters, front.exchange, store(front), source(front)
     return {
         "seconds": round(time.time() - meters.begun, 1),
         "messages_in": named(meters.inward), "messages_out": named(meters.outward),
@@ -96,7 +106,8 @@ def counters(front):
         "phones_by_vectors_left": front.stock.by_left(), "fewest_vectors_left": front.stock.least(),
         "log": log(front), "log_octets": log_octets(front),
         "log_segments_gone": meters.gone, "memory_octets": memory(), "mme_memory_octets": memory(exchange.program.pid),
-        "resumed": front.resumed, "given": front.given, **front.saving.told(), **({"store": in_store} if in_store else {}),
+        "resumed": front.resumed, "given": front.given, **front.saving.told(), **({STORE: in_store} if in_store else {}),
+        **({SOURCE: asked} if asked else {}),
     }
 
 
@@ -118,6 +129,8 @@ def alarms(front):
             found[series.what] = "The log of %s isn't whole since the start." % series.what
     if front.standby is not None and front.standby.room.is_low:
         found[STORE] = "T%s." % front.standby.room.words()[1:]
+    if front.holding is not None and not front.asking.source.is_there:
+        found[SOURCE] = "The source of vectors doesn't run."
     if front.stands_by and front.standby.fault is not None:
         found["log"] = "The store doesn't answer: %s." % front.standby.fault.words
     elif front.exchange.journal is None and front.standby is None:

@@ -8,10 +8,11 @@ from tools.fronting.challenges import RAND_OCTETS
 
 
 class Stock:
-    """The vectors of all phones, by the lines `vec`. `alarm` is called with a slot once its phone has few left."""
+    """The vectors of all phones, by the lines `vec`. `alarm` is called with a slot once its phone has few left, which are this many
+    or fewer."""
 
-    def __init__(self, head, alarm):
-        self.alarm, self.is_quiet = alarm, False
+    def __init__(self, head, alarm, few=limits.FEW_VECTORS):
+        self.alarm, self.is_quiet, self.most_few = alarm, False, few
         self.rands, self.spent = [], []  # by slot: the RANDs one after the other, and how many of them are spent
         self.phones, self.low = collections.Counter(), set()  # phones by vectors left; the slots that an alarm was for
         self.lines = 0
@@ -40,12 +41,17 @@ class Stock:
         """How many vectors a phone has left."""
         return len(self.rands[slot]) // RAND_OCTETS - self.spent[slot]
 
+    def unspent(self, slot):
+        """The RANDs of the vectors that a phone has left."""
+        rands = self.rands[slot]
+        return [rands[at:at + RAND_OCTETS] for at in range(self.spent[slot] * RAND_OCTETS, len(rands), RAND_OCTETS)]
+
     def move(self, slot, before):
         """A phone has another number left than before."""
         left = self.left(slot)
         self.phones[before] -= 1
         self.phones[left] += 1
-        if left > limits.FEW_VECTORS:
+        if left > self.most_few:
             self.low.discard(slot)
         elif left < before and slot not in self.low:
             self.low.add(slot)
@@ -84,7 +90,7 @@ class Stock:
 
     def few(self):
         """How many phones have few vectors left."""
-        return sum(self.phones[left] for left in range(limits.FEW_VECTORS + 1))
+        return sum(self.phones[left] for left in range(self.most_few + 1))
 
     def least(self):
         """The fewest that a phone has left; nothing where nobody is provisioned."""
@@ -93,5 +99,5 @@ class Stock:
     def by_left(self):
         """Phones by the vectors that they have left, those with more than few together."""
         found = {str(left): self.phones[left] for left in range(limits.FEW_VECTORS + 1)}
-        found["%d+" % (limits.FEW_VECTORS + 1)] = len(self.rands) - self.few()
+        found["%d+" % (limits.FEW_VECTORS + 1)] = len(self.rands) - sum(found.values())
         return found

@@ -8,6 +8,8 @@ import collections
 import os
 import select
 
+from tools.fronting import lines
+
 from tools.sourcing.milenage import AUTS_OCTETS, BLOCK
 from tools.sourcing.words import Fault, digits_of, field, hex_of, number_of, shown
 
@@ -69,24 +71,11 @@ def request_of(line):
     return Request(word, imsi, **read)
 
 
-class Lines:
-    """Takes lines out of octets as they come; one that is too long is None."""
+class Lines(lines.Lines):
+    """Takes requests out of octets as they come."""
 
     def __init__(self):
-        self.rest, self.is_too_long = b"", False
-
-    def take(self, octets):
-        """The lines that have come to their end."""
-        *lines, self.rest = (self.rest + octets).split(b"\n")
-        if lines and self.is_too_long:
-            lines[0], self.is_too_long = None, False
-        if len(self.rest) > LONGEST:
-            self.rest, self.is_too_long = b"", True
-        return [line if line is None or len(line) <= LONGEST else None for line in lines]
-
-    def last(self):
-        """The last line, where it has no end."""
-        return self.take(b"\n") if self.rest or self.is_too_long else []
+        super().__init__(LONGEST)
 
 
 def read_line(line):
