@@ -12,8 +12,6 @@ WORD is one of these, and all of them where none is given:
   attaches    500 phones that attach through one station at the front's own rate, all begun at once
   page        stations that together send 1,000 messages a second (--rate) to an MME of 32,768 subscribers, without and with 64
               clients of the page, of all manners (browsers.py)
-  give        with --library: vectors one by one, after a log of as many messages as go; then all subscribers that an MME takes, and
-              eight vectors of each, while one station sends 100 messages a second
   standby     with --etcd: stations that together send 5,000 messages a second (--rate) to a leader, which is then killed: how far
               the front that stands by lags, and when it answers
 
@@ -55,7 +53,6 @@ UNDER_WAY = 512  # messages that all stations together keep under way, but at le
 RATE, QUIET_RATE, PHONES = 20000, 100, 500
 STORED_RATE, STORED_STATIONS, LAGS = 5000, 20, 40
 PAGED_RATE, PAGED_STATIONS, SUBSCRIBERS, CLIENTS = 1000, 20, 32768, 64
-ALONE, VECTORS = 30, 8  # vectors that are given by themselves, and of each subscriber
 TICKS = os.sysconf("SC_CLK_TCK")
 AT_WILL = ("--rate", "1000000")
 LIBRARY = object()  # in a program's place: the MME in the front's own process
@@ -313,51 +310,6 @@ def attaches_of(given, way):
     front.close()
 
 
-def give(given):
-    print("| front | messages in the log | a vector, median and longest, ms | all, s | a message meanwhile: median, 99 of 100, "
-          "the last, ms |\n|---|---|---|---|---|")
-    for way in given.ways if given.program is LIBRARY else ():
-        give_of(given, way)
-
-
-def subscriber(slot):
-    return "sub 00101%010d 0a%06x 0b000001 %08x\n" % (slot + 1, slot + 1, slot + 1)
-
-
-def vector(slot, place):
-    return "vec 00101%010d %08x%024x %032x %016x %064x\n" % (slot + 1, slot, place, slot, slot << 32 | place, slot)
-
-
-def given_alone(front, place):
-    """Gives the first subscriber a vector; how long that takes."""
-    text, begin = vector(0, place).encode(), time.perf_counter()
-    with socket.socket(socket.AF_UNIX) as asking:
-        asking.connect(str(front.control))
-        asking.sendall(b"give %d\n%s" % (len(text), text))
-        assert asking.makefile().readline() == "given 0 subscribers, 1 vector\n"
-    return time.perf_counter() - begin
-
-
-def give_of(given, way):
-    front = begun(given, way, head() + subscriber(0), *AT_WILL)
-    load = Load(front.port, 1)
-    count = len(load.at_will(given.seconds) + load.paced(0, 0))
-    alone = [given_alone(front, place) for place in range(ALONE)]
-    lines = front.control.with_name("given")
-    lines.write_text("".join((subscriber(slot) if slot else "") + "".join(vector(slot, ALONE + place) for place in range(VECTORS))
-                             for slot in range(SUBSCRIBERS)))
-    begin, times = time.perf_counter(), []
-    asking = subprocess.Popen([sys.executable, FRONT, "ask", front.control, "give", lines], stdout=subprocess.PIPE)
-    while asking.poll() is None:
-        times += load.paced(QUIET_RATE, 0.1)
-    seconds = time.perf_counter() - begin
-    assert asking.stdout.read() == b"given %d subscribers, %d vectors\n" % (SUBSCRIBERS - 1, SUBSCRIBERS * VECTORS)
-    print("| %s | %d | %.2f, %.2f | %.2f | %.2f, %.2f, %.2f |" % (
-        way.name, count, share(alone, 0.5), share(alone, 1), seconds, *(share(times, part) for part in (0.5, 0.99, 1))))
-    load.close()
-    front.close()
-
-
 def free_port():
     with socket.create_server(("127.0.0.1", 0)) as listener:
         return listener.getsockname()[1]
@@ -366,7 +318,7 @@ def free_port():
 def page(given):
     """The same front without the clients and then with them; each line's memory is the most that there was until its end. The
     clients give way to the others, as if they had a machine of their own."""
-    subscribers = "".join(map(subscriber, range(SUBSCRIBERS)))
+    subscribers = "".join("sub 00101%010d 0a%06x 0b000001 %08x\n" % (slot + 1, slot + 1, slot + 1) for slot in range(SUBSCRIBERS))
     port = free_port()
     front = Front(given.program, head() + subscribers, *AT_WILL, "--page", "127.0.0.1:%d" % port)
     load = Load(front.port, PAGED_STATIONS)
@@ -455,7 +407,7 @@ def main():
     mmes = words.add_mutually_exclusive_group()
     mmes.add_argument("program", metavar="PROGRAM", nargs="?", default=TOP / "crates" / "mme" / "out" / "mme")
     mmes.add_argument("--library", action="store_true")
-    measures = {measure.__name__: measure for measure in (throughput, latency, flood, attaches, page, give, standby)}
+    measures = {measure.__name__: measure for measure in (throughput, latency, flood, attaches, page, standby)}
     words.add_argument("--only", nargs="+", choices=measures, default=list(measures))
     words.add_argument("--stations", nargs="+", type=int, default=[1, 10, 100])
     words.add_argument("--seconds", type=float, default=5.0)

@@ -41,10 +41,6 @@ SYSTEM = pathlib.Path(__file__).resolve().parent.parent / "mme"
 NO_KEY, LEFT_OUT = "-", "# left out at octet "
 NO_KEYS = "the trace is a log without keys, which `tools/front fill` puts back"
 
-# How a line of a log begins that is `sub` or `vec`, and was given where it stands (tools/fronting/adding.py). `mme play` skips it.
-FURTHER = "#+ "
-GIVEN_LATER = "the trace has lines of provisioning where they were given (`#+ `), which `tools/front fill --head` puts into its head"
-
 # How a comment of a log begins, above a `cancel` by which the front begins a subscriber anew (tools/fronting/giving.py).
 BEGUN_ANEW = "# begun anew: "
 
@@ -739,8 +735,4 @@ def run_of(trace_path, answers_path, program=None):
     comments = [] if program else read_told(octets, trace_path)
     if not trace.events:
         return trace, []
-    if comments:
-        return trace, told(trace, comments)
-    if b"\n" + FURTHER.encode() in octets:
-        versions.complain(GIVEN_LATER + ": they are skipped here")
-    return trace, played(trace, program or SYSTEM)
+    return trace, told(trace, comments) if comments else played(trace, program or SYSTEM)

@@ -211,23 +211,6 @@ class Vectors(Phones):
                           if challenges.challenged(octets) or octets[:2] == CONTEXT_REQUEST], [])
         self.assertEqual(running.stop()[0], 0)
 
-    def test_without_the_file_and_the_beginning(self):
-        """Where LOG.used is lost and no segment has the head that the log began with, all vectors of the subscribers' file count as
-        used."""
-        running = self.begin()
-        attach = self.attaches()
-        self.assertEqual(running.stop()[0], 0)
-        for name in ("log", "log.counts"):
-            text = (self.folder / name).read_text()
-            (self.folder / name).write_text(text[text.index("# segment 1, "):].replace("# segment 1, ", "# segment 2, ", 1))
-        (self.folder / "log.used").unlink()
-        running = self.begin("--keep", "1")
-        self.assertIn("log.used is lost: all vectors of the log count as used", running.told.decode())
-        self.assertEqual(rands_of(running), [(self.phone.imsi, vector.rand.hex()) for vector in self.phone.vectors])
-        self.assertEqual([octets for octets in self.answers_to(attach)
-                          if challenges.challenged(octets) or octets[:2] == CONTEXT_REQUEST], [])
-        self.assertEqual(running.stop()[0], 0)
-
     def test_without_the_file_and_a_phone(self):
         """Where no phone spoke, none of its vectors was used."""
         self.assertEqual(self.begin().stop()[0], 0)

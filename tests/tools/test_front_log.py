@@ -372,7 +372,12 @@ class GivenToPhones(unittest.TestCase):
         withheld = self.lines_of(late)
         running, talk = self.running(withheld)
         other.attaches(self.station, 1)
-        self.is_nobodys(late)
+        esm = LTE.pdn_connectivity_request(1, 1, False)
+        request = LTE.attach_request(1, LTE.imsi_identity(late.imsi), late.capability, esm)
+        self.trace.hear(self.station, LTE.initial_ue_message(self.trace.network, self.station, 2, request))
+        stranger = (1 << 31) + 2
+        self.trace.owe("x0.2", self.station, LTE.downlink_nas(stranger, 2, b"\x07\x44\x08"))
+        self.trace.owe("x0.2", self.station, LTE.release_command(stranger, 2, LTE.NORMAL_RELEASE))
         talk.settle()
         self.assertEqual(give(running, "\n".join(withheld) + "\n"), "given 1 subscriber, 2 vectors\n")
         # (with the longer head the request was challenged, by the first vector)
@@ -384,15 +389,6 @@ class GivenToPhones(unittest.TestCase):
         talk.settle()
         self.check_end(running)
         self.check_cancelled(running, late.imsi)
-
-    def is_nobodys(self, phone):
-        """A phone asks to attach whose subscriber isn't known."""
-        esm = LTE.pdn_connectivity_request(1, 1, False)
-        request = LTE.attach_request(1, LTE.imsi_identity(phone.imsi), phone.capability, esm)
-        self.trace.hear(self.station, LTE.initial_ue_message(self.trace.network, self.station, 2, request))
-        stranger = (1 << 31) + 2
-        self.trace.owe("x0.2", self.station, LTE.downlink_nas(stranger, 2, b"\x07\x44\x08"))
-        self.trace.owe("x0.2", self.station, LTE.release_command(stranger, 2, LTE.NORMAL_RELEASE))
 
     def check_cancelled(self, running, imsi):
         """The log has one `cancel`, below a comment that says whose it is; and the reasons say that nobody withdrew anything."""

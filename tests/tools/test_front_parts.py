@@ -471,6 +471,8 @@ class Provisioning(unittest.TestCase):
         sub, vector = "sub 001010000000002 0a000002 0a000064 00000002", "vec %s aa bb cc dd" % IMSI
         longer = head.with_more(["# more", sub, vector, vector.replace(IMSI, "001010000000002")])
         self.assertEqual((longer.imsis, longer.slots["001010000000002"]), ([IMSI, "001010000000002"], 1))
+        self.assertTrue(head.is_beginning_of(longer))
+        self.assertFalse(longer.is_beginning_of(head))
         for lines, why in ((["up 0"], "line 1: no line begins with 'up'"), ([sub, sub], "line 2: it stands already"),
                            ([sub.replace("0a000002", "0a000003"), sub], "line 2: 001010000000002 has its line sub"),
                            (["vec 001010000000003 aa bb cc dd"], "line 1: 001010000000003 has no line sub"),

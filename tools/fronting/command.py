@@ -1,7 +1,6 @@
 """The command line of tools/front."""
 import argparse
 import contextlib
-import functools
 import ipaddress
 import json
 import os
@@ -17,7 +16,6 @@ from tools.fronting.etcd import access_of
 from tools.fronting.exchange import END, GO_ON, REFUSE
 from tools.fronting.faults import WRONG, told
 from tools.fronting.front import Front
-from tools.fronting.heads import Gathered, check_sure
 from tools.fronting.keys import NO, YES, Filling, read_vectors
 from tools.fronting.listening import ControlSocket, listener_of, page_listener_of
 from tools.fronting.locking import Lock
@@ -143,11 +141,9 @@ def ask(given):
     try:
         octets = question(given)
         with connected(given.control, given.wait) as asking:
-            # Many lines are given in the time that they take.
-            asking.settimeout(None if given.word in OF_FILE else limits.GIVING_SECONDS + limits.HOLD_SECONDS)
+            asking.settimeout(limits.GIVING_SECONDS + limits.HOLD_SECONDS)
             try:
-                with contextlib.suppress(BrokenPipeError, ConnectionResetError):  # what is too much isn't read to its end
-                    asking.sendall(octets)
+                asking.sendall(octets)
                 answers = asking.makefile(encoding="utf-8", errors="replace", newline="\n")
                 answer = answers.readline()
                 counters = answers.readline() if wants_log(given) else ""
@@ -173,25 +169,13 @@ def ask(given):
 # --- A log without keys ---
 
 
-def filled(vectors, log):
-    """The lines of a log, with the keys of these vectors."""
-    filling = Filling(vectors)
-    for path in whole_series(log):
-        with open(path, "rb") as file:
-            yield from filling.whole(line for line in file if line.endswith(b"\n"))
-
-
 def fill(given):
-    """Prints a log with the keys of a file's vectors; where that is asked for, with all that was given in its head."""
+    """Prints a log with the keys of a file's vectors."""
     try:
-        read = functools.partial(filled, read_vectors(given.vectors), given.log)
-        if given.head:
-            check_sure(given.log)
-            gathered = Gathered(read)
-            for text in gathered.differences():
-                versions.complain(text)
-            read = gathered.lines
-        sys.stdout.buffer.writelines(read())
+        filling = Filling(read_vectors(given.vectors))
+        for path in whole_series(given.log):
+            with open(path, "rb") as file:
+                sys.stdout.buffer.writelines(filling.whole(line for line in file if line.endswith(b"\n")))
         sys.stdout.flush()
         return 0
     except BrokenPipeError:
@@ -345,9 +329,6 @@ def parser(description):
     filling = ways.add_parser("fill", help="print a log without keys with the keys of a file", **form)
     filling.add_argument("vectors", metavar="VECTORS", help="a file with the lines vec, such as SUBSCRIBERS")
     filling.add_argument("log", metavar="LOG", help="the log, with its earlier segments")
-    filling.add_argument("--head", action="store_true",
-                         help="print the lines that were given while the front ran (`#+ `) in the log's head, and say which lines "
-                         "are answered otherwise then")
     filling.set_defaults(act=fill)
     return words
 

@@ -9,51 +9,41 @@ from tools.fronting.guests import Door
 
 WORDS = {"data": 1, "cancel": 1, "show": 1, "give": 1, "stations": 0, "phones": 0, "counters": 0, "health": 0, "bearers": 0,
          "tunnel": 1, "release": 3, "traffic": 1}
+LENGTHS = {b"give": limits.LONGEST_GIVEN, b"traffic": limits.LONGEST_TRAFFIC}  # octets that may follow such a line
 OF_STANDBY = "stations", "phones", "counters", "health"  # what a front answers that only follows the log in a store
 NOT_LEADING = "refused: this front stands by, and another one leads"
 NOBODY = "refused %d: %s" % (runs.UNKNOWN_IMSI, runs.REFUSALS[runs.UNKNOWN_IMSI])
 
 
-def parted(octets, begin, end):
-    """What stands between two places, and what comes after it; of something long without a copy."""
-    if isinstance(octets, bytes):
-        return octets[begin:end], octets[end:]
-    rest = bytes(octets[end:])
-    del octets[end:], octets[:begin]
-    return octets, rest
-
-
 class Control:
     """Answers those who ask, each line after the one before."""
 
-    def __init__(self, front, listener, longest=limits.LONGEST_GIVEN):
+    def __init__(self, front, listener):
         self.front, self.answered = front, WORDS  # the second has the words that aren't refused for now
-        self.lengths = {b"give": longest, b"traffic": limits.LONGEST_TRAFFIC}  # octets that may follow such a line
         self.busy = weakref.WeakSet()  # guests whose line isn't answered yet, and those that follow the tunnels
-        self.door = Door(front.loop, listener, limits.MOST_ASKING, longest + limits.LONGEST_ASKED,
+        self.door = Door(front.loop, listener, limits.MOST_ASKING, limits.LONGEST_GIVEN + limits.LONGEST_ASKED,
                          limits.ASKING_SECONDS, self.take)
 
     def take(self, guest, received):
         """Answers the lines that are whole; returns what is left."""
         while guest not in self.busy and guest.is_open:
-            end = received.find(b"\n")
-            if end < 0 or end > limits.LONGEST_ASKED:
-                if len(received) > limits.LONGEST_ASKED:
+            line, end, rest = received.partition(b"\n")
+            if not end or len(line) > limits.LONGEST_ASKED:
+                if len(line) > limits.LONGEST_ASKED:
                     guest.close()
                 break
-            line = bytes(received[:end])
-            length, begin = self.length_of(line), end + 1
-            if len(received) < begin + (length or 0):
-                guest.wanted = begin + length
+            length = self.length_of(line)
+            if length is not None and len(rest) < length:
                 break
-            text, received = parted(received, begin, begin + (length or 0))
-            self.answer(guest, line, None if length is None else text)
+            received = rest[length or 0:]
+            self.answer(guest, line, None if length is None else rest[:length])
         return received
 
-    def length_of(self, line):
+    @staticmethod
+    def length_of(line):
         """How many octets follow a line that has their number, or nothing for another line."""
         word, _, count = line.partition(b" ")
-        if not count.isdigit() or len(count) > 9 or int(count) > self.lengths.get(word, -1):
+        if not count.isdigit() or len(count) > 9 or int(count) > LENGTHS.get(word, -1):
             return None
         return int(count)
 
@@ -75,7 +65,7 @@ class Control:
                 reply(NOT_LEADING)
             elif word in ("data", "cancel", "show"):
                 self.tell_mme(word, runs.imsi_of(fields[0]), reply)
-            elif word.encode() in self.lengths:
+            elif word.encode() in LENGTHS:
                 self.take_text(guest, word, text, reply)
             elif word == "bearers":
                 self.front.followers.follow(guest)
@@ -97,16 +87,11 @@ class Control:
         if imsi not in self.front.head.slots:
             reply(NOBODY)
             return
-        exchange, line = self.front.exchange, "%s %s" % (word, imsi)
-        note = lambda answer: reply("state %s %s" % (answer.imsi, answer.states))
-        if word == "show" and self.front.was_given(imsi):
-            exchange.ask([line], note, lambda: None)
-            return
-        exchange.put(line)
+        self.front.exchange.put("%s %s" % (word, imsi))
         if word == "show":
-            exchange.shows.append(note)
+            self.front.exchange.shows.append(lambda answer: reply("state %s %s" % (answer.imsi, answer.states)))
         else:
-            exchange.when_kept(lambda: reply("taken"))
+            self.front.exchange.when_kept(lambda: reply("taken"))
 
     def of_tunnel(self, word, imsi, *end):
         """Tells of a phone's tunnel, or has it be released where it leads to this end."""
@@ -120,7 +105,7 @@ class Control:
     def take_text(self, guest, word, text, reply):
         """A line with octets after it: further subscribers and vectors, or a gateway's counters."""
         if text is None:
-            raise runs.Fault("%s has the number of octets that follow, up to %d" % (word, self.lengths[word.encode()]))
+            raise runs.Fault("%s has the number of octets that follow, up to %d" % (word, LENGTHS[word.encode()]))
         if word == "give":
             self.front.give(text, reply)
         else:

@@ -192,7 +192,7 @@ class Crowd:
         elif is_silent(octets):
             batch.note_still(line, True)
         elif octets[1:2] == RESETS:
-            batch.note_reset(station.number, station.associations.is_reset_of_nobody(octets, self.exchange.slots), line)
+            batch.note_reset(station.number, station.associations.is_reset_of_nobody(octets, len(self.exchange.imsis)), line)
 
     def speak_for(self, number, octets, why):
         """A station is heard to say something that it didn't, with a comment in the log on who did; whether it is there."""

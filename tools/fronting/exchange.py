@@ -20,11 +20,11 @@ from tools.fronting.challenges import AUTHENTICATION_REQUEST_DIGITS, challenged
 from tools.fronting.faults import BABBLES, Ended, Failed, LOG_FAILS, SILENT, Unheld, told
 from tools.fronting.journal import Batch
 from tools.fronting.meters import CONTEXT_REQUEST, DOWNLINK, ERROR_INDICATION, RESET_ACKNOWLEDGE, SETUP_RESPONSE
-from tools.fronting.mme import MARK_ANSWER, NOT_TAKEN, TAKEN
+from tools.fronting.mme import MARK_ANSWER
 from tools.fronting.used import entry_of
 
 OUT, STATE, PHONE_OWNER, OWNERS = b"out ", b"state ", ord("s"), b"esx"
-OUT_OF_PHONE, OF_FURTHER = OUT + b"s", (TAKEN, NOT_TAKEN)
+OUT_OF_PHONE = OUT + b"s"
 NO_OCTETS = b"-"
 NUMBERS = {b"%d" % number: number for number in range(runs.STATIONS)}
 # How messages begin of which more is noted than that they go out; by one of the first two the MME may say that nothing changed.
@@ -38,8 +38,8 @@ class Exchange:
 
     def __init__(self, loop, voice, meters, used, full_disk=END):
         self.loop, self.voice, self.meters, self.used, self.full_disk = loop, voice, meters, used, full_disk
-        self.journal = self.program = self.make = self.mark = self.nobody = None  # the last: the IMSI of the mark
-        self.imsis, self.coming = [], set()  # by slot; those that are to be given
+        self.journal = self.program = self.make = self.mark = None
+        self.imsis = []  # by slot
         self.replayed = None  # while a log is played, the vectors of its challenges, each as LOG.used has it
         self.keeps_challenges = False  # whether it was said that none goes out
         self.batch, self.closed, self.marks = Batch(), [], collections.deque()
@@ -51,8 +51,6 @@ class Exchange:
         self.note_context = lambda slot, station, octets: None  # who is told of each INITIAL CONTEXT SETUP REQUEST of a phone
         self.follow = lambda batch: None  # who is told of each batch that the MME is given
         self.note_settled = lambda batch: None  # who is told of each batch that is answered and kept
-        self.lengthen = lambda lines: None  # who is told of further lines of provisioning that the MME took
-        self.note_refused = lambda number, line: None  # who is told of one that it refused, and by which number
         self.dirty, self.rest, self.heard_at = set(), b"", 0.0
         self.has_answered, self.held_since = False, None
         self.is_replaying = False  # whether answers are those that were given before
@@ -62,25 +60,9 @@ class Exchange:
 
     def begin(self, make, head):
         """Starts the MME with this head; `make` makes one, by the loop, what hears its answers, and what hears its words."""
-        self.make, self.imsis, self.coming = make, head.imsis, set()
-        self.mark_by(head.unknown_imsi())
+        self.make, self.mark, self.imsis = make, b"data %s\n" % head.unknown_imsi().encode(), head.imsis
         self.adopt(make(self.loop, self.hear, self.voice.say))
         self.program.give(head.text.encode("latin-1"))
-
-    def mark_by(self, imsi):
-        """Marks are for this IMSI, which nobody has."""
-        self.nobody, self.mark = imsi, b"data %s\n" % imsi.encode()
-
-    def keep_unknown(self, imsis):
-        """Subscribers of these IMSIs are to come: a mark is for none of them."""
-        self.coming |= imsis
-        if self.nobody in imsis:
-            self.mark_by(runs.unknown_imsi(self.coming.union(self.imsis)))
-
-    @property
-    def slots(self):
-        """How many subscribers there are or are to come."""
-        return len(self.imsis) + len(self.coming)
 
     def adopt(self, program):
         """From now on this one is the MME."""
@@ -415,39 +397,22 @@ class Exchange:
     def hear(self, piece):
         """Takes a piece of the MME's answers."""
         self.heard_at = time.monotonic()
-        lines, messages, further = (self.rest + piece).split(b"\n"), [], []
+        lines, messages = (self.rest + piece).split(b"\n"), []
         self.rest = lines.pop()
         for line in lines:
-            if further and line[:2] not in OF_FURTHER:
-                self.take_further(further)
-                further = []
             if line[:4] == OUT:
                 messages.append(line)
                 continue
             self.take_messages(messages)
             messages = []
-            if line[:2] in OF_FURTHER and self.program.takes_further:
-                further.append(line)
-            elif line == MARK_ANSWER and self.marks:
+            if line == MARK_ANSWER and self.marks:
                 self.has_been_answered(self.marks.popleft())
             elif not self.is_replaying or self.shows and line.startswith(STATE):
                 self.take_other(line)
         self.take_messages(messages)
-        if further:
-            self.take_further(further)
         self.write_beside()
         if len(self.rest) > runs.LONGEST_LINE:
             raise Failed("the MME's answer is longer than %d octets" % runs.LONGEST_LINE, BABBLES)
-
-    def take_further(self, lines):
-        """Takes answers in a row to further lines of provisioning."""
-        taken = [line[len(TAKEN):].decode("latin-1") for line in lines if line.startswith(TAKEN)]
-        self.lengthen(taken)
-        self.coming.difference_update(line.split(" ", 2)[1] for line in taken if line.startswith("sub "))
-        for line in lines:
-            if line.startswith(NOT_TAKEN):
-                number, _, text = line[len(NOT_TAKEN):].decode("latin-1").partition(" ")
-                self.note_refused(int(number), text)
 
     def take_messages(self, lines):
         """Takes answers in a row that are messages."""
@@ -565,8 +530,7 @@ class Exchange:
     def has_been_answered(self, batch):
         """All of a batch is answered."""
         self.has_answered = True
-        after, batch.after = batch.after, []  # they know the batch, and it goes once it doesn't know them
-        for act in after:
+        for act in batch.after:
             act()
         self.do(batch.turn, self.settle, batch)
 

@@ -8,7 +8,6 @@ import signal
 import time
 
 from tools.fronting import limits
-from tools.fronting.adding import Adding, lines_in, parts_of as parts_of_lines
 from tools.fronting.aside import Aside
 from tools.fronting.attaches import Attaches
 from tools.fronting.census import Census
@@ -25,9 +24,7 @@ from tools.fronting.loop import Loop
 from tools.fronting.meters import Meters
 from tools.fronting.mme import LINE_IS_WRONG, LibraryMme, PipedMme, library
 from tools.fronting.notify import Manager
-from tools.fronting.provisioning import Head
-from tools.fronting.resuming import (
-    NAMED, OF_LIBRARY, OR_FILLED, NoResume, Standing, facts_in, make_way, note_stations, parts_of, perhaps_used)
+from tools.fronting.resuming import NoResume, OF_PHONE, Standing, head_facts, make_way, note_stations, parts_of, perhaps_used
 from tools.fronting.soundness import Soundness
 from tools.fronting.standby import Standby
 from tools.fronting.stock import Stock
@@ -61,7 +58,6 @@ class Front:
         self.aside, self.census, self.attaches, self.soundness = Aside(self), Census(self), Attaches(self), Soundness(self)
         self.traffic = Traffic(self)
         self.is_over, self.is_busy = False, False
-        self.known, self.begun = set(), 0  # IMSIs of the head and of lines that are played; how many the head began with
         self.resumed, self.given = 0, 0
         self.form = form_of(settings.log_keys, head)  # of the log, as it begins
         self.make = functools.partial(*((LibraryMme, library()) if settings.library else (PipedMme, settings.mme)))
@@ -85,10 +81,10 @@ class Front:
 
     def put_away(self):
         """The log that stands makes way. Where it isn't known which of its vectors were used, all count as used."""
-        lost = [] if self.used.known else perhaps_used(self.settings.log, self.head.facts)
+        lost = [] if self.used.known else perhaps_used(self.settings.log)
         make_way(self.settings.log, self.settings.keep)
         if lost:
-            self.count_used(lost)
+            self.used.add(lost)
             self.voice.say("used_unknown", "%s is lost: all vectors of the log count as used" % self.used.path)
 
     def has_log(self):
@@ -99,14 +95,9 @@ class Front:
         if why and resumes and not self.settings.anew:
             raise Failed("%s (--anew begins with nobody attached)" % why, WRONG)
         if why:
-            self.count_used(facts_in(log, self.head.facts))
+            self.used.add(head_facts(log) or self.head.facts)
             self.voice.say("not_resumed", "the last run isn't resumed, and nobody is attached: %s" % why)
         return resumes and not why and bool(parts_of(log))
-
-    def count_used(self, lines):
-        """All vectors of these lines of a log count as used; where one of them is damaged, those of the subscribers' file too."""
-        if not self.used.add(lines):
-            self.used.add(self.head.facts)
 
     def write_to(self, journal):
         """From now on what the MME is given stands in this log, and on disk where it is to be synced. The vectors that were used are
@@ -135,18 +126,11 @@ class Front:
     def start(self, head):
         self.exchange = Exchange(self.loop, self.voice, self.meters, self.used, self.settings.full_disk)
         self.exchange.note_challenge = self.note_challenge
-        self.exchange.lengthen, self.exchange.note_refused = self.lengthen, self.has_refused
         self.start_mme(head)
 
     def start_mme(self, head):
         """An MME with this head, and what follows its phones."""
-        self.census.begin()
-        self.head, self.known, self.begun = head, set(head.slots), len(head.imsis)
-        if self.settings.library:
-            head.prepare()
         self.stock = Stock(head, self.has_few)
-        if self.followers is not None:
-            self.followers.lengthen()
         self.exchange.begin(self.make, head)
         if self.teller is not None:
             self.teller.end(None)
@@ -185,17 +169,15 @@ class Front:
     def resume(self):
         """Plays the log that stands, and goes on after it. The lines of provisioning that came since; nothing where it can't be,
         and a run is to begin anew."""
-        subscribers = self.head
         try:
             standing = Standing(self.settings.log)
-            count = len(standing.head.facts) + len(standing.further)
-            given = self.used.after(standing.head.facts + standing.further, subscribers).facts
-            up = self.play(standing, self.head_after(standing, given))
+            given = self.used.after(standing.head, self.head)
+            head = self.head_after(standing, given)
+            up = self.play(standing, head)
             if self.is_over:
                 return ()
-            self.check_used(given[:count], self.settings.log)
+            self.check_used(head.facts, self.settings.log)
         except (NoResume, Missing, Failed) as fault:
-            self.head = subscribers
             self.not_resumed(fault)
             return None
         seconds = standing.seconds_since()
@@ -208,10 +190,11 @@ class Front:
         self.exchange.flush()
         self.wait()
         self.resumed = 1
+        self.head = head
         self.voice.say("resumed", "the run of %s goes on: %s lost, %d s passed" % (
             self.settings.log, "1 station was" if len(up) == 1 else "%d stations were" % len(up), seconds),
             stations=len(up), seconds=seconds)
-        return given[count:]
+        return given.facts[len(head.facts):]
 
     def not_resumed(self, fault):
         """The last run can't go on: ends with the status of what stays wrong, unless a run is to begin anew then."""
@@ -248,17 +231,15 @@ class Front:
             raise Failed("%s: %s" % (self.settings.log, told(fault)), LOG_FAILS) from None
 
     def head_after(self, standing, given):
-        """The head to play a log with, whose lines those of the subscribers' file begin with, and then with those given since."""
+        """The head to go on with after a log, whose lines those of the subscribers' file begin with."""
         log, subscribers = self.settings.log, self.settings.subscribers
-        if standing.further and not self.settings.library:
-            raise NoResume(OF_LIBRARY % log + OR_FILLED)
         if standing.has_keys != self.form.has_keys:
             stands, wanted = ("the vectors' keys" if form.has_keys else "no keys" for form in (standing, self.form))
             raise NoResume("%s keeps %s, and this run's log is to keep %s (--log-keys)" % (log, stands, wanted))
-        lines = self.form.taken_up(standing.head.facts + standing.further, given)
-        if lines is None:
+        head = self.form.taken_up(standing.head, given)
+        if head is None:
             raise NoResume("%s begins with other lines than %s%s" % (log, subscribers, OTHER_LINES[standing.has_keys]))
-        return Head(list(standing.head.lines) if standing.has_keys else lines[:len(standing.head.facts)])
+        return head
 
     def play(self, standing, head):
         """Gives the MME what counts of a log, and what happened since that was settled; the stations that were connected."""
@@ -267,7 +248,7 @@ class Front:
         self.stock.is_quiet = True
         exchange, exchange.is_replaying, exchange.replayed = self.exchange, True, set()
         for piece in standing.events():
-            self.check_lines(piece, self.settings.log)
+            self.check_lines(piece, head.slots, self.settings.log)
             note_stations(piece, up)
             filled = fill(piece)
             self.teller.take_before(filled)
@@ -279,7 +260,7 @@ class Front:
         exchange.is_replaying, exchange.meters = False, Meters()  # what was sent before isn't counted as sent now
         self.tail = standing.tail_batches(fill)
         for batch, octets in zip(self.tail, standing.tail):
-            self.check_lines(octets, self.settings.log)
+            self.check_lines(octets, head.slots, self.settings.log)
             note_stations(octets, up)
             exchange.shows.extend([lambda answer: None] * sum(line.startswith("show ") for line in batch.lines))
             exchange.marks.append(batch)
@@ -297,18 +278,13 @@ class Front:
             self.voice.say("few_vectors", "%s used all vectors but %d or fewer (`ask phones` has each phone's)"
                            % (runs.counted(len(self.stock.low), "phone"), limits.FEW_VECTORS), phones=len(self.stock.low))
 
-    def check_lines(self, octets, log):
+    @staticmethod
+    def check_lines(octets, slots, log):
         """Refuses lines of a log for an IMSI that nobody has: no run writes them, and by such a line's answer the front knows that
-        a batch is over. Those that lines of provisioning add are known from there on."""
-        coming = set()
-        for found in NAMED.finditer(octets):
-            of_phone, added = found.groups()
-            if added:
-                coming.add(added.decode())
-            elif of_phone.decode() not in self.known and of_phone.decode() not in coming:
-                raise NoResume("%s has a line that is damaged: nobody has the IMSI %s" % (log, of_phone.decode()))
-        self.known |= coming
-        self.exchange.keep_unknown(coming)
+        a batch is over."""
+        for imsi in OF_PHONE.findall(octets):
+            if imsi.decode() not in slots:
+                raise NoResume("%s has a line that is damaged: nobody has the IMSI %s" % (log, imsi.decode()))
 
     # The log in a store.
 
@@ -321,7 +297,7 @@ class Front:
 
     def begin_following(self, head):
         """Begins the MME that is to play the log in the store from its first turn on, in the place of one that did so."""
-        is_first = self.exchange is None
+        self.head, is_first = head, self.exchange is None
         if is_first:
             self.start(head)
             self.exchange.is_replaying, self.exchange.replayed, self.exchange.meters = True, set(), Meters()
@@ -369,7 +345,7 @@ class Front:
         self.crowd = Crowd(self.loop, self.exchange, self.voice, self.meters, self.attaches, self.settings)
         self.followers = Followers(self)
         control, page = self.doors
-        self.control = Control(self, control, limits.LONGEST_ADDED if self.settings.library else limits.LONGEST_GIVEN)
+        self.control = Control(self, control)
         if page is not None:
             self.page = page(self)
 
@@ -462,9 +438,6 @@ class Front:
         """Provisions further subscribers and vectors, and replies how that went."""
         if self.giving is not None:
             raise runs.Fault("something is being given already")
-        if self.settings.library:
-            self.add(lines_in(text), reply)
-            return
         if self.exchange.journal is None or not self.exchange.journal.is_whole:
             raise runs.Fault("the log isn't whole since the start, so that nothing can be given")
         if self.standby is not None and len(text) > limits.LONGEST_STORED:
@@ -473,46 +446,12 @@ class Front:
         self.used.check_given(lines)
         self.giving = Giving(self, lines, reply)
 
-    def add(self, parts, reply):
-        """Provisions them in the MME that runs."""
-        self.giving = Adding(self, parts, reply)
-        self.giving.go_on()
-
-    def lengthen(self, lines):
-        """The MME has taken further lines of provisioning."""
-        for line in lines:
-            self.head.add(line)
-        self.form.add(lines)
-        self.stock.lengthen(self.head)
-        if self.followers is not None:
-            self.exchange.do(self.exchange.marks[0].turn, self.followers.lengthen)
-
-    def was_given(self, imsi):
-        """Whether a subscriber isn't of the log's head, so that `mme play` ends at `show` of it."""
-        return self.settings.library and self.head.slots[imsi] >= self.begun
-
-    def has_refused(self, number, line):
-        """The MME has refused a further line of provisioning, of those that are given now or of a log. As it stands in the log, it
-        isn't given again."""
-        self.head.known.add(line)
-        self.teller.refuse()
-        if self.giving is not None and not self.exchange.is_replaying:
-            self.giving.is_refused(number, line)
-
     def give_more(self, lines):
         """Gives the lines of the subscribers' file that the log lacks: to a store one part after the other."""
-        if self.settings.library:
-            self.add(parts_of_lines(lines), self.has_given_more)
-            return
         sizes = itertools.accumulate(len(line) + 1 for line in lines)
         end = len(lines) if self.standby is None else sum(size <= limits.LONGEST_STORED for size in sizes)
         rest = lines[end:]
         self.give("\n".join(lines[:end]).encode("latin-1"), lambda answer: self.give_more(rest) if rest else None)
-
-    def has_given_more(self, answer):
-        """Says which of those lines can't be given, counted from the first."""
-        if answer.startswith("fault "):
-            self.voice.say("not_given", "what the subscribers' file has more than the log isn't given: %s" % answer.partition(" ")[2])
 
     # The end.
 

@@ -21,7 +21,7 @@ import time
 from tools import runs
 
 from tools.fronting import limits
-from tools.fronting.faults import Failed, LOG_FAILS, Unheld, told
+from tools.fronting.faults import Failed, LOG_FAILS
 from tools.fronting.keys import Whole
 from tools.fronting.segments import Reading, Series
 from tools.fronting.syncing import folder_of, forget_unsynced, note_unsynced, sync_path
@@ -58,12 +58,11 @@ class Batch:
     of each line, where that isn't the line. `asked` has by a line whose states the MME is asked for right after it, `turn` is the
     number of its turn, 0 for what stood in the log before, `octets` are those of messages alone, `before` is how many lines of the
     log stand before it, where that is known, and `whole` the lines as octets, once they were wanted. `said`, `sent` and `lost` have
-    what of it says where tunnels end (bearers.py): messages of stations, answers, and stations that were lost. `has_further` is
-    whether lines of provisioning are given in it."""
+    what of it says where tunnels end (bearers.py): messages of stations, answers, and stations that were lost."""
 
     __slots__ = ("lines", "logged", "owners", "heard", "idle", "nobodys", "meant", "associations", "still", "moving", "asked",
                  "given", "after", "place", "time", "answers", "has_ticks", "turn", "octets", "before", "whole", "said", "sent",
-                 "lost", "has_further")
+                 "lost")
 
     def __init__(self):
         self.lines, self.logged, self.owners, self.heard, self.idle, self.has_ticks = [], None, [], {}, {}, False
@@ -72,7 +71,7 @@ class Batch:
         self.given, self.after, self.place, self.time, self.answers = 0.0, [], None, None, 0
         self.turn = self.octets = 0
         self.before = self.whole = None
-        self.said, self.sent, self.lost, self.has_further = [], [], [], False
+        self.said, self.sent, self.lost = [], [], []
 
     def add(self, line, station=None):
         """A line, and the station that it is a message of."""
@@ -235,22 +234,10 @@ class Journal(Turns):
         self.turn += 1
         for batch, end in zip(batches, ends):
             batch.place, batch.turn = (place[0], place[1] + end), self.turn
-        if self.syncer is not None:
+        if self.syncer is None:
+            self.committed = self.turn
+        else:
             self.sync_turn()
-            return
-        if any(batch.has_further for batch in batches):
-            self.sync_further()
-        self.committed = self.turn
-
-    def sync_further(self):
-        """Has a turn with lines of provisioning be on disk before it goes on, though no other is: a power cut may take of LOG.used
-        that a vector was used, and then the log says that it was given."""
-        try:
-            os.fdatasync(self.happened.file)
-            if self.happened.has_new_name:
-                self.sync_names()
-        except OSError as fault:
-            raise Unheld("%s: %s" % (self.path, told(fault)), LOG_FAILS) from None
 
     def count_lines(self, lines, batches):
         """Counts the lines of a turn: so many, and those of these batches. Each new segment has begun with a line."""

@@ -49,10 +49,6 @@ HANGING_SECONDS = 10  # without a turn of the loop, after which a front with a s
 
 LONGEST_ASKED = 256  # octets of a line of the control socket
 LONGEST_GIVEN = 1 << 22  # octets of the lines that `give` has after its own
-# The same for an MME of the library; how many of the lines are given in a turn, and the octets and seconds of a step of looking at
-# them.
-LONGEST_ADDED, ADDED_LINES, ADDED_OCTETS, ADDING_SECONDS = 1 << 26, 200, 1 << 14, 0.005
-MOST_SUBSCRIBERS, MOST_UNSPENT = 32768, 64  # that an MME has, and vectors of each
 MOST_ASKING = 16  # connections to the control socket at a time
 ASKING_SECONDS = 60  # for one of them to say a whole line, and to read its answer
 GIVING_SECONDS = 120  # for the second MME to play the log

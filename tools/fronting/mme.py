@@ -1,9 +1,4 @@
-"""The MME, which is given lines and answers them: `mme play` as a process of its own, or in this process by the library.
-
-The library's also takes further subscribers and vectors while it runs, by lines that begin with `#+ ` (adding.py). It answers each
-by the line itself, after `+ ` where it took it, and after `- ` and the refusal's number where it didn't.
-"""
-import binascii
+"""The MME, which is given lines and answers them: `mme play` as a process of its own, or in this process by the library."""
 import collections
 import contextlib
 import fcntl
@@ -21,7 +16,6 @@ from tools.fronting.faults import Failed, WRONG, told
 
 PIPE_OCTETS = 1 << 20
 MARK_ANSWER = b"refused %d" % runs.UNKNOWN_IMSI
-FURTHER, TAKEN, NOT_TAKEN = runs.FURTHER.encode(), b"+ ", b"- "  # how such a line and its answers begin
 TOP = pathlib.Path(__file__).resolve().parents[2]
 # Why there is no library: in a clone, and in a package.
 NOT_BUILT = "there is no library, which `./mme --library` builds (docs/LIBRARY.md)"
@@ -37,9 +31,7 @@ def nothing():
 class Mme:
     """What an MME is to the front: `give` and `finish` for what it is given, `taken` for when it took some of what waited, `hear`
     for a piece of its answers, `say` for its words, `end` for its end. It has ended once there is a status and it is silent; `pid`
-    is the process that it is in. `takes_further` says whether it is provisioned while it runs."""
-
-    takes_further = False
+    is the process that it is in."""
 
     def __init__(self, loop, hear, say):
         self.loop, self.hear, self.say = loop, hear, say
@@ -193,13 +185,10 @@ def library():
 class LibraryMme(Mme):
     """An MME of the library. What it is given it plays in later turns of the loop, a while in each."""
 
-    takes_further = True
-
     def __init__(self, package, loop, hear, say):
         super().__init__(loop, hear, say)
         self.library, self.mme = package, package.Mme()
         self.played, self.timer = 0, None  # how many lines were played, and what plays the next
-        self.has_started = False  # whether it surely runs
 
     # To the library.
 
@@ -228,7 +217,7 @@ class LibraryMme(Mme):
             self.played += 1
             self.size -= len(line) + 1
             try:
-                answers += self.take(line) if line.startswith(FURTHER) else self.mme.answers(line)
+                answers += self.mme.answers(line)
             except self.library.Refused as refused:
                 fault = refused.refusal
         if answers:
@@ -242,34 +231,6 @@ class LibraryMme(Mme):
         elif self.is_last:
             self.has_ended(0)
         self.taken()
-
-    def take(self, line):
-        """Takes a further subscriber or vector; what is answered. Lack of memory is raised: played again, the line is taken."""
-        text = line[len(FURTHER):].decode("latin-1")
-        word, _, rest = text.partition(" ")
-        try:
-            self.add(word, *rest.split(" "))
-        except self.library.Refused as refused:
-            if refused.refusal in (self.library.Refusal.NO_MEMORY, self.library.Refusal.LOST):
-                raise
-            return ["%s%d %s" % (NOT_TAKEN.decode(), refused.refusal, text)]
-        return [TAKEN.decode() + text]
-
-    def add(self, word, imsi, *fields):
-        """Takes it by its words."""
-        if not self.has_started:
-            self.mme.start()
-            self.has_started = True
-        try:
-            octets = [binascii.unhexlify(field) for field in fields]
-        except ValueError:
-            raise self.library.Refused(self.library.Refusal.BAD_OCTETS) from None
-        if (word, len(octets)) == ("vec", 4):
-            self.mme.give_live(imsi, *octets)
-        elif (word, [len(field) for field in octets]) == ("sub", [4, 4, 4]):
-            self.mme.add_live(imsi, *[int.from_bytes(field, "big") for field in octets])
-        else:
-            raise self.library.Refused(self.library.Refusal.FIELD_COUNT)
 
     # Its end.
 

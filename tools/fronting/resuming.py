@@ -21,32 +21,14 @@ TIME_FORMAT = "%Y-%m-%d %H:%M:%S.%f"
 SETTLED, TIME = b"# settled until segment ", b"# time "
 CHANGES = re.compile(rb"^(up|lost) (\d+)$", re.MULTILINE)
 PHONE = re.compile(rb"^in [0-9]+ 000c", re.MULTILINE | re.IGNORECASE)  # an INITIAL UE MESSAGE, without which nobody is challenged
-FURTHER = runs.FURTHER.encode()
-NAMED = re.compile(rb"^(?:(?:data|cancel|show) (\d+)$|%ssub (\d+) )" % re.escape(FURTHER), re.MULTILINE)
+OF_PHONE = re.compile(rb"^(?:data|cancel|show) (\d+)$", re.MULTILINE)
 PIECE = 1 << 18  # octets that the MME is given at once
-# Why a program can't go on with a log.
-OF_LIBRARY = "%s has lines of provisioning where they were given (`#+ `), which `mme play` skips: go on with --library"
-OR_FILLED = ", or with what `mme-front fill --head` makes of it (deploy/README.md)"  # of a log in files
 OTHERS = (".counts", GIVEN_UP, UNSYNCED)  # what belongs to a log, after its name
 COMMENTS = (runs.LEFT_OUT, "# came protected: ", runs.BEGUN_ANEW)  # how lines begin that are about the line below them
 
 
 class NoResume(Exception):
     """Why a log can't be taken up."""
-
-
-def further_in(octets, start=0, end=None):
-    """The lines of provisioning that were given where they stand, of whole lines of a log."""
-    end, at, found = len(octets) if end is None else end, start, []
-    while True:
-        if octets[at:at + len(FURTHER)] != FURTHER:
-            before = octets.find(b"\n" + FURTHER, at, end)
-            at = before + 1 if before >= 0 else end
-        stop = octets.find(b"\n", at, end)
-        if stop < 0:
-            return found
-        found.append(octets[at + len(FURTHER):stop].decode("latin-1"))
-        at = stop + 1
 
 
 def parts_of(path):
@@ -117,37 +99,21 @@ def mapped(path):
         return mmap.mmap(file.fileno(), 0, access=mmap.ACCESS_READ)
 
 
-def why_given_up(path):
-    """Why a log hasn't all that was answered, where its run went on without it."""
-    if os.path.lexists(path + GIVEN_UP):
-        return "%s was given up, and the run went on without it (%s)" % (path, path + GIVEN_UP)
-    return None
-
-
 def head_facts(path):
-    """The lines of provisioning that a log begins with, by what happened or what counts, or nothing where neither can be read."""
-    for series in (path, path + ".counts", path + GIVEN_UP):
-        with contextlib.suppress(OSError):
-            older = older_segments(series)
-            octets = pathlib.Path(older[min(older)] if older else series).read_bytes()
-            found = NUMBERED.search(octets)
-            head = octets[:found.start()] if found else b""
-            if head and b"\0" not in head:
-                return head.decode("latin-1").splitlines()
-    return []
+    """The lines of provisioning that a log begins with, or nothing where that can't be read."""
+    try:
+        older = older_segments(path)
+        octets = pathlib.Path(older[min(older)] if older else path).read_bytes()
+    except OSError:
+        return []
+    found = NUMBERED.search(octets)
+    return octets[:found.start()].decode("latin-1").splitlines() if found else []
 
 
-def facts_in(path, others):
-    """The lines of provisioning that a log begins with, and those that were given since, as far as they can be read; of a log
-    whose beginning is lost these others too."""
-    parts = [part for part in map(pathlib.Path, parts_of(path).values()) if part.is_file()]
-    return (head_facts(path) or others) + [line for part in parts for line in further_in(part.read_bytes())]
-
-
-def perhaps_used(path, others):
-    """The same of a log with messages of phones, whose vectors were perhaps used."""
+def perhaps_used(path):
+    """The lines of provisioning of a log with messages of phones, whose vectors were perhaps used."""
     parts = map(pathlib.Path, parts_of(path).values())
-    return facts_in(path, others) if any(PHONE.search(part.read_bytes()) for part in parts if part.is_file()) else []
+    return head_facts(path) if any(PHONE.search(part.read_bytes()) for part in parts if part.is_file()) else []
 
 
 def own_number(path, octets):
@@ -202,8 +168,8 @@ class Standing:
 
     def __init__(self, path):
         self.path = path
-        if why := why_given_up(path):
-            raise NoResume(why)
+        if os.path.lexists(path + GIVEN_UP):
+            raise NoResume("%s was given up, and the run went on without it (%s)" % (path, path + GIVEN_UP))
         try:
             self.counts, self.happened = read_series(path + ".counts"), read_series(path)
         except OSError as fault:
@@ -218,7 +184,6 @@ class Standing:
             raise NoResume("%s.counts has no head" % path) from None
         self.counts_end = self.end_of_counts()
         self.tail, self.tail_places = self.find_tail()
-        self.further = self.find_further()
 
     def end_of_counts(self):
         """Up to where what counts is good: the last line that says what is settled, or what stands before the first of all."""
@@ -234,19 +199,11 @@ class Standing:
                 return int(found[1]), int(found[2])
         return 1, 0
 
-    def spans(self):
-        """Each segment of what counts, with where its lines begin and end."""
-        for number, segment in self.counts.items():
-            yield segment, self.start if number == 1 else 0, self.counts_end if number == len(self.counts) else len(segment)
-
-    def find_further(self):
-        """The lines of provisioning that were given since, as they stand."""
-        found = [line for span in self.spans() for line in further_in(*span)]
-        return found + [line for octets in self.tail for line in further_in(octets)]
-
     def events(self):
         """What counts, in pieces of whole lines."""
-        for segment, at, end in self.spans():
+        for number, segment in self.counts.items():
+            at = self.start if number == 1 else 0
+            end = self.counts_end if number == len(self.counts) else len(segment)
             while at < end:
                 stop = end if end - at <= PIECE else segment.rfind(b"\n", at, at + PIECE) + 1
                 if stop <= at:

@@ -13,7 +13,7 @@ from tools.fronting.etcd import Etcd, TXN
 from tools.fronting.faults import Failed, NOT_YET, WRONG
 from tools.fronting.journal import TIME, clock, octets_of
 from tools.fronting.provisioning import Head
-from tools.fronting.resuming import NoResume, OF_LIBRARY, further_in, note_stations, seconds_since
+from tools.fronting.resuming import NoResume, note_stations, seconds_since
 from tools.fronting.room import Room
 
 LOG = "the store's log"
@@ -21,15 +21,14 @@ LOG = "the store's log"
 
 class Standby:
     """Follows the log in the store. `number` is the last turn that was played, `turn` its lines, `size` the octets of all up to it,
-    `last` the last one that was read of, and `given` the last that gave lines of provisioning; `gave` are all of these, `further`
-    those that stand in turns, and `own` those of the subscribers' file after what the log begins with. `head` is what the log says
-    that it begins with, `up` the stations that are connected to who leads, and `came` when the last turn came, where this front had
-    played all turns before it."""
+    `last` the last one that was read of, and `given` the last that gave lines of provisioning; `gave` are all of these, and `more`
+    those of the subscribers' file that the log lacks. `head` is what the log says that it begins with, `up` the stations that are
+    connected to who leads, and `came` when the last turn came, where this front had played all turns before it."""
 
     def __init__(self, front, access):
         self.front, self.etcd, self.scheme = front, Etcd(front.loop, access), stored.Scheme(front.head.mme)
         self.last, self.number, self.given, self.size = None, 0, 0, 0
-        self.up, self.gave, self.further, self.own, self.fault, self.turn, self.head = set(), [], [], [], None, b"", b""
+        self.up, self.gave, self.more, self.fault, self.turn, self.head = set(), [], [], None, b"", b""
         self.since, self.came = time.monotonic(), None  # the first: since when all reads found the same last turn
         self.room = None  # of the store, once it was there
         self.is_full, self.most = True, limits.TURNS_READ  # whether there is more than was read; turns that are read at once
@@ -99,28 +98,19 @@ class Standby:
         self.head = b"".join(stored.values_of(head))
         self.given = max([self.given, *stored.numbers_of(given)])
         self.gave += b"".join(stored.values_of(given)).decode("latin-1").splitlines()
-        self.number, self.size, self.up, self.further = 0, 0, set(), []
+        self.number, self.size, self.up = 0, 0, set()
         self.front.begin_following(self.front.head if self.last == stored.NOTHING else self.provisioned())
 
     def provisioned(self):
-        """What the log begins with and what was given since."""
-        facts = self.front.facts
-        begun = stored.facts_of(self.head, facts, self.front.settings.subscribers)
-        self.own = facts[len(begun):]
-        self.check_own(self.gave, 0)
+        """What the log begins with and what was given since, which the subscribers' file has too as far as both go."""
+        facts, path = self.front.facts, self.front.settings.subscribers
+        begun = stored.facts_of(self.head, facts, path)
+        own = facts[len(begun):]
+        both = min(len(self.gave), len(own))
+        if self.gave[:both] != own[:both]:
+            raise Failed("%s has other lines after those that %s begins with than were given" % (path, LOG), WRONG)
+        self.more = own[both:]
         return Head(begun + self.gave)
-
-    def check_own(self, lines, at):
-        """Refuses a subscribers' file that has other lines at a place than were given, as far as both go."""
-        own = self.own[at:at + len(lines)]
-        if lines[:len(own)] != own:
-            raise Failed("%s has other lines after those that %s begins with than were given" % (
-                self.front.settings.subscribers, LOG), WRONG)
-
-    @property
-    def more(self):
-        """The lines of the subscribers' file that the log lacks."""
-        return self.own[len(self.gave) + len(self.further):]
 
     def follow(self):
         """Plays what comes, until this front leads; the lines of provisioning that the log lacks."""
@@ -177,10 +167,9 @@ class Standby:
         """Gives the MME a turn."""
         front = self.front
         try:
-            front.check_lines(octets, LOG)
+            front.check_lines(octets, front.head.slots, LOG)
         except NoResume as fault:
             raise Failed(str(fault), WRONG) from None
-        self.note_further(further_in(octets))
         note_stations(octets, self.up)
         front.exchange.shows.extend([lambda answer: None] * octets.count(b"\nshow "))
         front.teller.take_before(octets)
@@ -188,13 +177,6 @@ class Standby:
         self.number, self.turn, self.size = number, octets, self.size + len(octets)
         while front.exchange.program.size and not front.is_over:
             front.turn_before_stations()
-
-    def note_further(self, lines):
-        """Notes lines of provisioning that stand in a turn, which the library alone takes there."""
-        if lines and not self.front.settings.library:
-            raise Failed(OF_LIBRARY % LOG, WRONG)
-        self.check_own(lines, len(self.gave) + len(self.further))
-        self.further += lines
 
     # Leading.
 

@@ -57,23 +57,13 @@ class Stock:
         rands, spent = self.rands[slot], self.spent[slot]
         if spent and rands[(spent - 1) * RAND_OCTETS:spent * RAND_OCTETS] == rand:
             return
-        place = self.place_of(slot, rand, spent)
-        if place is not None:
-            before = self.left(slot)
-            self.spent[slot] = place + 1
-            self.move(slot, before)
-
-    def place_of(self, slot, rand, since=0):
-        """The place of a phone's vector, from one on; nothing where none has this RAND."""
-        rands = self.rands[slot]
-        at = rands.find(rand, since * RAND_OCTETS)
+        at = rands.find(rand, spent * RAND_OCTETS)
         while at >= 0 and at % RAND_OCTETS:
             at = rands.find(rand, at + 1)
-        return at // RAND_OCTETS if at >= 0 else None
-
-    def most_unspent(self, slot):
-        """How many vectors of a phone the MME has at the most: it keeps that of a challenge until the phone has answered it."""
-        return self.left(slot) + (self.spent[slot] > 0)
+        if at >= 0:
+            before = self.left(slot)
+            self.spent[slot] = at // RAND_OCTETS + 1
+            self.move(slot, before)
 
     def few(self):
         """How many phones have few vectors left."""

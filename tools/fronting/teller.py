@@ -17,11 +17,9 @@ from tools.fronting import limits
 TOO_FAST = "messages came faster than their reasons could be found"
 TOO_MANY = "they are found for %d subscribers with %d vectors at the most" % (limits.MOST_TOLD_OF, limits.MOST_TOLD_BY)
 UNREADABLE = "what the MME was given can't be read on"
-REFUSED = "the MME refused a line of provisioning that was given"
 UNKNOWN_LINE = "?, before this start or in no log"
 END = object()  # what comes after the last step
 LINES = 20  # of a head that are read in a step
-OF_FURTHER = runs.FURTHER + "sub ", runs.FURTHER + "vec "
 ELSEWHERE = Told(None, 0, [], [])  # puts what is told into a sentence
 
 
@@ -71,7 +69,6 @@ class Teller:
         self.front, self.world, self.why_not = front, None, None
         self.waiting, self.lines, self.octets = collections.deque(), 0, 0  # what is still to be read, and how much that is
         self.places, self.events, self.is_anew, self.timer = collections.Counter(), 0, False, None
-        self.room = 0, 0  # for further subscribers, and vectors
         self.of_messages, self.others = {}, collections.deque(maxlen=limits.MOST_REASONS)
 
     def begin(self, head):
@@ -80,8 +77,7 @@ class Teller:
             self.end(TOO_MANY)
             return
         try:
-            self.world, count = World([line.encode("latin-1") for line in head.facts]), len(head.imsis)
-            self.room = limits.MOST_TOLD_OF - count, limits.MOST_TOLD_BY - (len(head.facts) - count - 1)
+            self.world = World([line.encode("latin-1") for line in head.facts])
             self.front.exchange.follow = self.take
         except (runs.Fault, TypeError):  # a head that the MME won't take
             self.end(UNREADABLE)
@@ -91,11 +87,6 @@ class Teller:
         self.world, self.why_not = None, why
         self.waiting.clear()
         self.lines = self.octets = 0
-
-    def refuse(self):
-        """The MME refused a further line of provisioning, which the model took or is to take."""
-        if self.world is not None:
-            self.end(REFUSED)
 
     # What the MME is given.
 
@@ -111,22 +102,14 @@ class Teller:
         for at in range(0, len(more), LINES):
             yield self.world.lengthen(more[at:at + LINES])
 
-    def has_room(self, *counts):
-        """Whether the model goes on with so many further subscribers, and vectors, among lines that come."""
-        if self.world is not None:
-            self.room = tuple(room - count for room, count in zip(self.room, counts))
-            if min(self.room) < 0:
-                self.end(TOO_MANY)
-        return self.world is not None
-
     def take(self, batch):
         """A batch of lines."""
-        if self.has_room(*(sum(line.startswith(word) for line in batch.lines) for word in OF_FURTHER)):
+        if self.world is not None:
             self.put(self.read_batch(batch, self.front.meters.now), len(batch.lines), batch.octets)
 
     def take_before(self, octets):
         """Lines that stood in the log when the run began."""
-        if self.has_room(*(octets.count(word.encode()) for word in OF_FURTHER)):
+        if self.world is not None:
             self.put(self.read_before(octets), octets.count(b"\n"), len(octets))
 
     def put(self, reading, lines, octets):
@@ -173,8 +156,6 @@ class Teller:
     def read(self, text, number, when):
         """A line: at an event the reasons that the model tells are noted, where it happens now."""
         word, *fields = text.split(" ")
-        if text.startswith(runs.FURTHER):
-            self.world.lengthen([text[len(runs.FURTHER):].encode("latin-1")])
         if not text or text.startswith("#") or word == "show":
             self.is_anew = self.is_anew or text.startswith(runs.BEGUN_ANEW)
             return

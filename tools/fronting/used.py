@@ -91,16 +91,15 @@ class UsedVectors:
         os.fsync(self.file)
 
     def add(self, lines):
-        """Writes the vectors among lines of provisioning as used, on disk too; whether each could be read."""
-        entries = list(filter(None, map(vector_of, lines)))
-        whole = [entry for entry in entries if LINE.fullmatch(entry)]
-        self.noted.update(dict.fromkeys(entry for entry in whole if entry not in self.known))
+        """Writes the vectors among lines of provisioning as used, on disk too."""
+        for entry in filter(None, map(vector_of, lines)):
+            if entry not in self.known:
+                self.noted[entry] = None
         try:
             self.write()
             self.sync()
         except OSError as fault:
             raise Failed("%s: %s" % (self.path, told(fault)), LOG_FAILS) from None
-        return len(whole) == len(entries) and not any("\0" in line for line in lines)
 
     def forget_noted(self):
         """What was noted doesn't go out."""
@@ -114,10 +113,10 @@ class UsedVectors:
         """A head to begin a run with: without the vectors that were used."""
         return Head([line for line in head.lines if vector_of(line) not in self.known])
 
-    def after(self, standing, given):
-        """The head of a file, for a run that goes on after a log with the lines that stand: without the vectors that were used,
-        but for those of the log."""
-        left, place = [], 0
+    def after(self, stands, given):
+        """The head of a file, for a run that goes on after a log with the head that stands: without the vectors that were used,
+        but for those that the log began with."""
+        left, place, standing = [], 0, stands.facts
         for line in given.facts:
             if place < len(standing) and standing[place] in (line, without_keys(line)):
                 place += 1
@@ -130,16 +129,7 @@ class UsedVectors:
         """Refuses a vector that was used, among lines to be given."""
         for number, line in enumerate(lines, 1):
             if vector_of(line) in self.known:
-                raise runs.Fault("line %d: %s" % (number, self.why_used()))
-
-    def check_vector(self, imsi, rand):
-        """Refuses a vector that was used, by its IMSI and its RAND in small letters."""
-        if self.known and ("%s %s" % (imsi, rand)).encode() in self.known:
-            raise runs.Fault(self.why_used())
-
-    def why_used(self):
-        """Why a vector that was used isn't given."""
-        return "its vector was used already: its RAND stands in %s" % self.path
+                raise runs.Fault("line %d: its vector was used already: its RAND stands in %s" % (number, self.path))
 
     def look_after(self):
         """Writes a new file where it was moved or cut; whether it was."""
