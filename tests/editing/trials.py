@@ -148,7 +148,7 @@ class Trial:
         """The edits that can be tried together, in lists, each of different functions; and those that are tried alone."""
         batches, alone = [], []
         for edit in edits:
-            place = place_of_edit(self.crate, edit)
+            place = self.applies(edit) and place_of_edit(self.crate, edit)
             fits = place and next((batch for batch in batches if self.fits(batch, edit, place)), None)
             if not place:
                 alone.append(edit)
@@ -158,11 +158,15 @@ class Trial:
                 fits.append((edit, place))
         return batches, alone
 
+    def applies(self, *edits):
+        """Whether these edits can be applied together. By itself, rt says of an edit why it can't."""
+        return not self.rt.edited("\n".join(map(text_of, edits)), self.crate.folder)[1]
+
     def fits(self, batch, edit, place):
         """Whether an edit is of no function of a batch, and can be applied beside its edits."""
         if any((place.module, place.name) == (other.module, other.name) for _, other in batch):
             return False
-        return not self.rt.edited("\n".join(text_of(one) for one in [*(one for one, _ in batch), edit]), self.crate.folder)[1]
+        return self.applies(*(one for one, _ in batch), edit)
 
     def try_batch(self, batch):
         """Tries edits of different functions in one check; returns rt's line for each that it refuses, and the edits that it doesn't."""

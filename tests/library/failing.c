@@ -3,14 +3,16 @@
  *
  *     failing TRACE ANSWERS ..    with malloc and realloc wrapped by the linker
  *
- * Each trace is played line by line (soizkadur_line), by the calls that its lines stand for, and by these with what its lines `sub`
- * and `vec` provision coming while the MME runs; its head is taken by soizkadur_new, and each message that is sent in it is read by
- * soizkadur_s1ap. ANSWERS are those that the trace must have. Where all allocations are refused, a call that provisions while the
- * MME runs and has another cause to be refused is refused for that one. Prints for each trace how many allocations were refused.
+ * Each trace is played line by line (soizkadur_line), some lines at a time (soizkadur_play), by the calls that its lines stand for,
+ * and by these with what its lines `sub` and `vec` provision coming while the MME runs; its head is taken by soizkadur_new, and each
+ * message that is sent in it is read by soizkadur_s1ap; and in its midst the MME is saved and restored. ANSWERS are those that the
+ * trace must have. Where all allocations are refused, a call that provisions while the MME runs and has another cause to be refused
+ * is refused for that one. Prints for each trace how many allocations were refused.
  */
-#include "calls.h"
+#include "texts.h"
 
 #define MOST_IMSIS 4
+#define MOST_SAVED (1 << 20) /* octets of a snapshot */
 
 /* While a call is made, allocations are counted, and the one with this number is refused; none is, where it is 0. Or all are. */
 static unsigned long asked, refused;
@@ -146,6 +148,34 @@ static void play(const struct text *trace, struct text *answers, struct counts *
             put_taken(answers, &mme, counts);
         else
             put_answers(answers, &mme, line, answer);
+    }
+    soizkadur_free(&mme);
+    refused = refused == 0 ? asked : refused;
+}
+
+/* Plays a trace some lines at a time with one allocation refused; what isn't done then is given again. */
+static void play_texts(const struct text *trace, struct text *answers, struct counts *counts)
+{
+    soizkadur_mme mme = SOIZKADUR_EMPTY;
+    asked = answers->length = 0;
+    srand(1);
+    for (size_t at = 0; at < trace->length;) {
+        struct span turn = turn_at(trace, at, 1 + (unsigned)rand() % 3);
+        soizkadur_played played = {0, 0, 0, 0};
+        uint32_t answer;
+        CALLED(answer, soizkadur_play(&mme, octets(turn), turn.length, &played, buffer_of_answers, sizeof buffer_of_answers));
+        put(answers, (const char *)buffer_of_answers, played.length);
+        wipe(buffer_of_answers, played.length);
+        at += octets_of(turn, played.lines);
+        if (answer == SOIZKADUR_LOST) {
+            counts->lost++;
+            must(soizkadur_start(&mme) == SOIZKADUR_ORDER, "nothing is provisioned any more");
+            at = answers->length = 0;
+        } else if (answer != SOIZKADUR_OK) {
+            must(answer == SOIZKADUR_NO_MEMORY, "no line is wrong, and there is room");
+            counts->no_memory++;
+            play_rest(&mme, trace, &at, &played, answers);
+        }
     }
     soizkadur_free(&mme);
     refused = refused == 0 ? asked : refused;
@@ -300,6 +330,61 @@ static void read_messages(const struct text *trace, struct text *answers, struct
     refused = refused == 0 ? asked : refused;
 }
 
+/* Saves a part of an MME, again where that is refused for lack of memory; how many octets it has. */
+static size_t saved(soizkadur_mme *mme, uint64_t *place, uint8_t *room, size_t most, struct counts *counts)
+{
+    uint64_t there = *place;
+    size_t length = 77;
+    uint32_t answer;
+    look(&before, mme);
+    CALLED(answer, soizkadur_save(mme, place, room, most, &length));
+    must(answer == SOIZKADUR_OK || (*place == there && length == 77), "a call that was refused writes nothing");
+    if (after(answer, mme, counts) == AGAIN)
+        answer = soizkadur_save(mme, place, room, most, &length);
+    must(answer == SOIZKADUR_OK, "a part is saved");
+    return length;
+}
+
+/* An MME that is restored from the snapshot of another takes its place. */
+static void restart(soizkadur_mme *mme, struct counts *counts)
+{
+    static uint8_t octets[MOST_SAVED];
+    soizkadur_mme second = SOIZKADUR_EMPTY;
+    size_t length = 0;
+    uint32_t answer;
+    for (uint64_t place = 0; place != SOIZKADUR_SAVED;)
+        length += saved(mme, &place, octets + length, sizeof octets - length, counts);
+    uint64_t place = 77;
+    CALLED(answer, soizkadur_restore(&second, octets, length, UINT64_MAX, &place));
+    if (answer == SOIZKADUR_NO_MEMORY) {
+        counts->no_memory++;
+        must(soizkadur_start(&second) == SOIZKADUR_NO_MME && place == 77, "the handle is empty, and no place is written");
+        answer = soizkadur_restore(&second, octets, length, UINT64_MAX, &place);
+    }
+    must(answer == SOIZKADUR_OK && place == 77, "a snapshot is restored");
+    soizkadur_free(mme);
+    memcpy(mme, &second, sizeof second);
+}
+
+/* Plays a trace whose lines are right line by line, with a restart once half of its events are played. */
+static void save_and_restore(const struct text *trace, struct text *answers, struct counts *counts)
+{
+    soizkadur_mme mme = SOIZKADUR_EMPTY;
+    struct span line;
+    unsigned events = 0, half = 0;
+    asked = answers->length = 0;
+    for (size_t at = 0; next_line(trace, &at, &line);)
+        half += (unsigned)is_event(line);
+    half = (half + 1) / 2;
+    for (size_t at = 0; next_line(trace, &at, &line);) {
+        put_answers(answers, &mme, line, played(&mme, line));
+        if (is_event(line) && ++events == half)
+            restart(&mme, counts);
+    }
+    soizkadur_free(&mme);
+    refused = refused == 0 ? asked : refused;
+}
+
 /* What a run says with ample memory, which isn't known otherwise. */
 static struct text said(void (*run)(const struct text *, struct text *, struct counts *), const struct text *trace)
 {
@@ -358,7 +443,7 @@ static void count_in(struct counts *all, const struct counts *of_run, const char
 /* The ways to play a trace, each of which gives its answers; how many allocations were refused. */
 static unsigned long played_each_way(const struct text *trace, const struct text *wanted, struct counts *counts)
 {
-    void (*const ways[])(const struct text *, struct text *, struct counts *) = {play, call, call_live};
+    void (*const ways[])(const struct text *, struct text *, struct counts *) = {play, play_texts, call, call_live};
     unsigned long total = 0;
     for (size_t place = 0; place < sizeof ways / sizeof ways[0]; place++) {
         struct counts of_way = {0, 0, 0};
@@ -384,6 +469,15 @@ static unsigned long run_each(const struct text *trace, struct counts *counts)
     return total;
 }
 
+/* The run with a restart, which gives the trace's answers; how many allocations were refused. */
+static unsigned long restarted(const struct text *trace, const struct text *wanted, struct counts *counts)
+{
+    struct counts of_run = {0, 0, 0};
+    unsigned long total = each(save_and_restore, trace, wanted, &of_run);
+    count_in(counts, &of_run, "something was refused");
+    return total;
+}
+
 int main(int count, char **given)
 {
     must(count > 2 && count % 2 == 1, "failing TRACE ANSWERS ..");
@@ -393,6 +487,7 @@ int main(int count, char **given)
         find_imsis(&trace);
         unsigned long total = played_each_way(&trace, &wanted, &counts);
         total += run_each(&trace, &counts);
+        total += restarted(&trace, &wanted, &counts);
         other_causes_first(&trace);
         printf("%lu allocations refused: NO_MEMORY %lu, LOST %lu, ticks %lu\n", total, counts.no_memory, counts.lost, counts.ticks);
         forget(&trace);

@@ -1,12 +1,12 @@
 """Random lines by `mme play` and by the library, which have to answer alike.
 
 The lines are those of tests/hostile: random events of phones and stations that lie, each chosen by what the program answered
-before. A session of them is played by the library line by line, and by the calls that the lines stand for, with the states of each
-subscriber after each event. Then it is played by calls once more, with subscribers and vectors that come among the events: each
-subscriber before a line names it, each vector before the phone is challenged by it. The program has them in the head of the same
-trace, and must have the same answers and states. At last come short traces of the session's lines, of which one is spoiled: the
-program ends at the first line that is wrong, with the fault's number; the library has to refuse that line with the same number, and
-to answer alike before.
+before. A session of them is played by the library line by line, by the calls that the lines stand for, and by an MME that is saved
+and restored after each 97th event, with the states of each subscriber after each event. Then it is played by calls once more, with
+subscribers and vectors that come among the events: each subscriber before a line names it, each vector before the phone is
+challenged by it. The program has them in the head of the same trace, and must have the same answers and states. At last come short
+traces of the session's lines, of which one is spoiled: the program ends at the first line that is wrong, with the fault's number;
+the library has to refuse that line with the same number, and to answer alike before.
 """
 import bisect
 import collections
@@ -28,6 +28,7 @@ MOST_EVENTS = 60  # of a short trace
 FEW_VECTORS = 2  # of each subscriber in a short trace
 TOO_LONG = 40001  # octets
 SECONDS = 600  # for one run
+RESTARTED = "--restarted 97"  # (a number of events that divides no other number here)
 MOST_SHOWN = 3000  # of a difference
 SHOWS = ["show " + imsi for imsi in IMSIS]
 FAULT = re.compile(rb"mme: line \d+: fault (\d)\n")
@@ -57,7 +58,7 @@ class Players:
         return run_over([self.mme, "play"], lines)
 
     def by_library(self, lines, way="--lines"):
-        return run_over([self.play, way, "-"], lines)
+        return run_over([self.play, *way.split(" "), "-"], lines)
 
     def differ(self, lines):
         return self.by_program(lines) != self.by_library(lines)
@@ -238,7 +239,7 @@ def session(seed, count, players):
     lines, printed = whole(run)
     counts.update({"events": len(run.events), "answers": sum(map(len, run.answers))})
     counts["refused"] = sum(line.startswith("refused ") for answers in run.answers for line in answers)
-    for way in ("--lines", "--calls"):
+    for way in ("--lines", "--calls", RESTARTED):
         if players.by_library(lines, way) != (0, printed, b""):
             return counts, players.told("session %s %s" % (seed, way), lines, way)
     wrong = played_late(random.Random("%s late" % seed), run, players, counts)

@@ -2,9 +2,11 @@
  * number is that of soizkadur.h, and what the handle holds and all that the call would write is as it was. Of several causes the
  * first counts.
  *
- *     refusals TRACE ANSWERS    of a phone that attaches as the only one, which it does too while these calls are refused
+ *     refusals TRACE ANSWERS SWITCHED    of a phone that attaches as the only one, which it does too while these calls are refused;
+ *                                        and of one that has switched paths, and is connected at the end
  */
 #include "calls.h"
+#include "snapshots.h"
 
 #define MOST_LINE 40000 /* octets of a line */
 
@@ -84,6 +86,7 @@ static void of_an_empty_handle(void)
     soizkadur_output output = {7, 7, 7, 7};
     uint8_t buffer[4] = {7, 7, 7, 7};
     size_t count = 7;
+    uint64_t place = 7;
     uint32_t slot = 7;
     AS_IT_WAS(soizkadur_replies(mme) == 0);
     REFUSED(NO_MME, soizkadur_add(mme, NOTHING, 1, 2, 3));
@@ -101,7 +104,8 @@ static void of_an_empty_handle(void)
     REFUSED(NO_MME, soizkadur_out(mme, 0, 0, &output, buffer, sizeof buffer));
     REFUSED(NO_MME, soizkadur_states(mme, NOTHING, &states));
     REFUSED(NO_MME, soizkadur_slot_of_imsi(mme, NOTHING, &slot));
-    AS_IT_WAS(count == 7 && slot == 7 && buffer[0] == 7 && output.length == 7 && states.emm == 7);
+    REFUSED(NO_MME, soizkadur_save(mme, &place, buffer, sizeof buffer, &count));
+    AS_IT_WAS(count == 7 && place == 7 && slot == 7 && buffer[0] == 7 && output.length == 7 && states.emm == 7);
     soizkadur_free(mme);
     REFUSED(NO_MME, soizkadur_up(mme, 0));
 }
@@ -175,6 +179,62 @@ static void of_a_whole_trace(void)
     TAKEN(line(mme, SETUP));
     REFUSED(IN_USE, made_of(mme, "", &fault));
     AS_IT_WAS(fault.line == 77 && fault.refusal == 77);
+    soizkadur_free(mme);
+}
+
+/* Lines that stop, or don't: how far, and what is answered. */
+static void stops(soizkadur_mme *mme, const char *text, size_t room, uint32_t wanted, soizkadur_played owed, const char *answers,
+                  int place)
+{
+    static uint8_t buffer[MOST_LINE];
+    soizkadur_played played = {77, 77, 77, 77};
+    memset(buffer, 77, sizeof buffer);
+    uint32_t got = soizkadur_play(mme, TEXT(text), &played, buffer, room);
+    tried++;
+    int is_so = got == wanted && played.lines == owed.lines && played.taken == owed.taken && played.unsaid == owed.unsaid
+                && played.length == owed.length && memcmp(buffer, answers, owed.length) == 0;
+    for (size_t at = owed.length; at < sizeof buffer; at++)
+        is_so = is_so && buffer[at] == 77;
+    if (is_so)
+        return;
+    fprintf(stderr, "refusals.c:%d: %.60s\n  is answered by %u after %u lines, and not by %u after %u, and by\n%.*s\n", place, text,
+            (unsigned)got, (unsigned)played.lines, (unsigned)wanted, (unsigned)owed.lines, (int)(played.length % 1000), (char *)buffer);
+    exit(1);
+}
+
+#define STOPS(wanted, text, room, lines, unsaid, answers) \
+    stops(mme, text, room, SOIZKADUR_##wanted, (soizkadur_played){lines, 0, unsaid, strlen(answers)}, answers, __LINE__)
+
+static void of_texts(void)
+{
+    static char lines[MOST_LINE + 40];
+    soizkadur_mme empty = SOIZKADUR_EMPTY, *mme = &empty;
+    soizkadur_played played = {77, 77, 77, 77};
+    size_t count = 0;
+    STOPS(UNKNOWN_WORD, "station 0\n", 100, 0, 0, "");
+    REFUSED(ORDER, soizkadur_start(mme));
+    STOPS(ORDER, "# a comment\n\nup 0\n", 100, 2, 0, "");
+    STOPS(OK, "tick 1", 100, 0, 0, "");
+    STOPS(FIELD_COUNT, "mme 001 01 8001 01 internet 1000000000 1000000000\nsub 1\ntick 1\n", 0, 1, 0, "");
+    STOPS(PROVISION, "sub 001010000000001 0a000001 0a000064 00000001\nshow 001010000000009\n", 100, 1, 0, "");
+    STOPS(BAD_NUMBER, "up 128\n", 100, 0, 0, "");
+    STOPS(BAD_OCTETS, "\n\nin 0 0\n", 100, 2, 0, "");
+    STOPS(OK, "lost 1\nup 0\nup 0\ndata 001010000000009\nshow 001010000000001\ntick 3\nlost", 200, 6, 0,
+          "refused 1\nrefused 2\nrefused 5\nstate 001010000000001 DEREGISTERED IDLE INACTIVE\n");
+    STOPS(NO_ROOM, "tick 1\nlost 1\n", 9, 1, 0, "");
+    STOPS(OK, "lost 1\n", 10, 1, 0, "refused 1\n");
+    STOPS(NO_ROOM, "lost 1\nlost 1\n", 19, 1, 0, "refused 1\n");
+    strcpy(lines, SETUP);
+    strcat(lines, "\nlost 1\n");
+    STOPS(NO_ROOM, lines, 40, 0, 1, "");
+    must(soizkadur_count(mme, 0, &count) == SOIZKADUR_OK && count == 1, "what isn't answered is the reply");
+    strcpy(lines, "lost 1\n");
+    strcat(lines, longest);
+    strcat(lines, "\n");
+    STOPS(TOO_LONG, lines, 100, 1, 0, "refused 1\n");
+    TAKEN(soizkadur_play(mme, NOTHING, &played, NOTHING));
+    AS_IT_WAS(played.lines == 0 && played.taken == 0 && played.unsaid == 0 && played.length == 0);
+    REFUSED(ORDER, line(mme, "sub 001010000000002 0a000002 0a000064 00000001"));
     soizkadur_free(mme);
 }
 
@@ -396,6 +456,195 @@ static void of_an_mme_that_runs(const char *path_of_trace, const char *path_of_a
     forget(&wanted);
 }
 
+/* ---- saving and restoring */
+
+/* ATTACH REQUEST with a GUTI of another network at station 0 under the eNB UE S1AP ID 9: the phone is asked for its identity. */
+static const char FOREIGN[] = "in 0 000c4041000005000800020009001a0019180741710bf602f8390001021234567802e06000040201d0110043"
+                              "00060000f1100001006440080000f110000010100086400130";
+#define STRANGER 0x80000009u /* its number */
+
+#define OF_STRANGERS ((uint64_t)1 << 33)
+#define OF_SUBSCRIBERS ((uint64_t)1 << 34)
+#define MOST_PARTS 8
+
+/* A snapshot in its parts, which are numbered: what stands first, strangers, how many subscribers there are, and each of them. */
+struct parts {
+    struct text each[MOST_PARTS];
+    size_t count;
+};
+
+static struct parts parts_of(soizkadur_mme *mme)
+{
+    struct parts parts = {{{NULL, 0, 0}}, 0};
+    for (uint64_t place = 0; place != SOIZKADUR_SAVED; parts.count++) {
+        must(parts.count < MOST_PARTS, "there are few parts");
+        TAKEN(add_part(mme, &place, &parts.each[parts.count]));
+    }
+    return parts;
+}
+
+/* The snapshot of these parts: the digits are their numbers. */
+static struct text joined(const struct parts *parts, const char *order)
+{
+    struct text snapshot = {NULL, 0, 0};
+    for (; *order; order++)
+        put(&snapshot, parts->each[*order - '0'].at, parts->each[*order - '0'].length);
+    return snapshot;
+}
+
+static void forget_parts(struct parts *parts)
+{
+    for (size_t at = 0; at < parts->count; at++)
+        forget(&parts->each[at]);
+}
+
+/* An empty handle refuses octets, of which the fault is at a place; 77 where none is written. */
+static void refuses(const struct text *snapshot, uint64_t work, uint32_t refusal, uint64_t wanted, const char *what, int line_at)
+{
+    soizkadur_mme empty = SOIZKADUR_EMPTY, *mme = &empty;
+    uint64_t place = 77;
+    look(&before, mme);
+    refused_so(mme, restored(mme, snapshot, work, &place), refusal, what, line_at);
+    if (place != wanted)
+        fprintf(stderr, "refusals.c:%d: %s: at %#llx\n", line_at, what, (unsigned long long)place);
+    AS_IT_WAS(place == wanted && empty.at == NULL);
+}
+
+#define REFUSES(snapshot, work, refusal, place) \
+    refuses(snapshot, work, SOIZKADUR_##refusal, place, #snapshot " " #refusal, __LINE__)
+
+/* The parts in this order are refused. */
+#define REFUSES_PARTS(parts, order, place) \
+    do { \
+        struct text snapshot_ = joined(parts, order); \
+        refuses(&snapshot_, ANY_WORK, SOIZKADUR_NO_SNAPSHOT, place, order, __LINE__); \
+        forget(&snapshot_); \
+    } while (0)
+
+/* So are all parts, with the first octet of some in one of them changed. */
+#define REFUSES_SPOILED(parts, number, octets, spoiled, place) \
+    do { \
+        char *at_ = found((parts)->each[number], octets, sizeof octets - 1), kept_ = *at_; \
+        *at_ = spoiled; \
+        REFUSES_PARTS(parts, "01234", place); \
+        *at_ = kept_; \
+    } while (0)
+
+static char *found(struct text text, const char *octets, size_t length)
+{
+    for (size_t at = 0; at + length <= text.length; at++)
+        if (memcmp(text.at + at, octets, length) == 0)
+            return text.at + at;
+    must(0, "the part has these octets");
+    return NULL;
+}
+
+/* What is refused of a save by an MME that runs, of two subscribers. */
+static void places_refused(soizkadur_mme *mme)
+{
+    const uint64_t places[] = {1, OF_STRANGERS - 1, OF_STRANGERS + 4294967297, OF_SUBSCRIBERS - 1, OF_SUBSCRIBERS + 2,
+                               OF_SUBSCRIBERS + 32767, OF_SUBSCRIBERS + 32768, 2 * OF_SUBSCRIBERS, SOIZKADUR_SAVED};
+    uint8_t buffer[4] = {7, 7, 7, 7};
+    size_t length = 7;
+    for (size_t at = 0; at < sizeof places / sizeof places[0]; at++) {
+        uint64_t place = places[at];
+        REFUSED(BAD_NUMBER, soizkadur_save(mme, &place, buffer, sizeof buffer, &length));
+        AS_IT_WAS(place == places[at] && length == 7 && buffer[0] == 7);
+    }
+    REFUSED(IN_USE, soizkadur_restore(mme, NOTHING, 0, (uint64_t[]){77}));
+}
+
+/* Each part is refused where there is an octet too little room, and then only its length is written. */
+static void rooms_refused(soizkadur_mme *mme)
+{
+    struct text snapshot = {NULL, 0, 0};
+    for (uint64_t place = 0; place != SOIZKADUR_SAVED;) {
+        uint64_t there = place;
+        snapshot.length = 0;
+        TAKEN(add_part(mme, &there, &snapshot));
+        uint8_t *room = (uint8_t *)malloc(snapshot.length); /* so that valgrind sees each octet past it */
+        must(room != NULL, "the test has memory");
+        memset(room, 7, snapshot.length);
+        size_t length = 7;
+        REFUSED(NO_ROOM, soizkadur_save(mme, &place, room, snapshot.length - 1, &length));
+        AS_IT_WAS(length == snapshot.length && place != there);
+        REFUSED(NO_ROOM, soizkadur_save(mme, &place, NOTHING, &length));
+        for (size_t at = 0; at < snapshot.length; at++)
+            AS_IT_WAS(room[at] == 7);
+        TAKEN(soizkadur_save(mme, &place, room, snapshot.length, &length));
+        AS_IT_WAS(length == snapshot.length && place == there && memcmp(room, snapshot.at, length) == 0);
+        free(room);
+    }
+    forget(&snapshot);
+}
+
+/* The snapshot of an MME of two subscribers, of whom the first is registered and connected, and of a phone that is asked for its
+ * identity, spoiled. */
+static void snapshots_refused(soizkadur_mme *mme)
+{
+    struct parts parts = parts_of(mme);
+    AS_IT_WAS(parts.count == 5);
+    struct text whole = joined(&parts, "01234"), more = joined(&parts, "01234"), other = joined(&parts, "01234");
+    put(&more, "", 1);
+    other.at[0]++;
+    REFUSES(&other, ANY_WORK, OTHER_VERSION, (uint64_t)(uint8_t)other.at[0]);
+    REFUSES(&more, ANY_WORK, NO_SNAPSHOT, SOIZKADUR_SAVED);
+    more.length -= 2;
+    REFUSES(&more, ANY_WORK, NO_SNAPSHOT, SOIZKADUR_SAVED);
+    more.length = 0;
+    REFUSES(&more, ANY_WORK, NO_SNAPSHOT, SOIZKADUR_SAVED);
+    REFUSES(&whole, 0, TOO_MUCH_WORK, 77);
+    REFUSES(&whole, 1, TOO_MUCH_WORK, 77);
+    REFUSES_SPOILED(&parts, 0, "internet", '.', 0); /* no label */
+    REFUSES_SPOILED(&parts, 3, "\x10\x10\0\0\0\0\x10", '\xaa', OF_SUBSCRIBERS); /* an IMSI whose digits aren't */
+    parts.each[0].at[parts.each[0].length - 1] = 2; /* strangers */
+    REFUSES_PARTS(&parts, "01134", OF_STRANGERS + STRANGER); /* the stranger comes twice */
+    parts.each[0].at[parts.each[0].length - 1] = 1;
+    REFUSES_PARTS(&parts, "01233", OF_SUBSCRIBERS + 1); /* the IMSI is taken */
+    REFUSES_PARTS(&parts, "01243", OF_SUBSCRIBERS + 1); /* the connection's id is of slot 0 */
+    REFUSES_PARTS(&parts, "0123", SOIZKADUR_SAVED);
+    soizkadur_mme second = SOIZKADUR_EMPTY;
+    uint64_t place = 77;
+    TAKEN(restored(&second, &whole, 2, &place)); /* as many path switches as there were */
+    AS_IT_WAS(place == 77);
+    soizkadur_free(&second);
+    forget(&whole);
+    forget(&more);
+    forget(&other);
+    forget_parts(&parts);
+}
+
+static void of_snapshots(const char *path)
+{
+    soizkadur_mme empty = SOIZKADUR_EMPTY, *mme = &empty;
+    uint8_t buffer[PART_ROOM];
+    uint64_t place = 0, wrong = 7;
+    size_t length = 7;
+    TAKEN(line(mme, "# a handle that holds something, of which nothing is provisioned"));
+    REFUSED(BAD_NUMBER, soizkadur_save(mme, &wrong, buffer, sizeof buffer, &length));
+    REFUSED(NO_MME, soizkadur_save(mme, &place, buffer, sizeof buffer, &length));
+    REFUSED(IN_USE, soizkadur_restore(mme, NOTHING, 0, &wrong));
+    TAKEN(new_of(mme, 3, "internet", 1, 1));
+    REFUSED(NO_MME, soizkadur_save(mme, &place, buffer, sizeof buffer, &length)); /* it isn't started */
+    AS_IT_WAS(place == 0 && wrong == 7 && length == 7);
+    soizkadur_free(mme);
+    struct text trace = read_all(path);
+    struct span one;
+    for (size_t at = 0; next_line(&trace, &at, &one);)
+        TAKEN(played(mme, one));
+    TAKEN(line(mme, FOREIGN));
+    places_refused(mme);
+    rooms_refused(mme);
+    snapshots_refused(mme);
+    for (int count = 0; count < VECTORS; count++)
+        TAKEN(gives_live(mme, IMSI, 16, 16, 16, 32));
+    REFUSED(PROVISION, gives_live(mme, IMSI, 16, 16, 16, 32));
+    for (place = OF_SUBSCRIBERS; place != SOIZKADUR_SAVED;)
+        TAKEN(soizkadur_save(mme, &place, buffer, sizeof buffer, &length));
+    soizkadur_free(mme);
+    forget(&trace);
+}
+
 /* ---- events, replies and questions */
 
 static void of_events(void)
@@ -509,7 +758,7 @@ static void of_keys(void)
 int main(int count, char **given)
 {
     soizkadur_release release = {777777, 777777, 777777};
-    must(count == 3, "refusals TRACE ANSWERS");
+    must(count == 4, "refusals TRACE ANSWERS SWITCHED");
     soizkadur_version(&release);
     AS_IT_WAS(release.major != 777777 && release.minor != 777777 && release.patch != 777777);
     printf("version %u.%u.%u\n", (unsigned)release.major, (unsigned)release.minor, (unsigned)release.patch);
@@ -517,9 +766,11 @@ int main(int count, char **given)
     of_an_empty_handle();
     of_lines();
     of_a_whole_trace();
+    of_texts();
     of_provisioning();
     of_an_mme_that_does_not_run();
     of_an_mme_that_runs(given[1], given[2]);
+    of_snapshots(given[3]);
     of_events();
     of_replies_and_questions();
     of_codecs();

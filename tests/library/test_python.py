@@ -105,6 +105,29 @@ def row(path):
     must_be("".join(line + "\n" for line in told), path.with_suffix(".answers").read_text())
 
 
+@test_of_each([("%s in turns of %d lines" % (path.stem, most), (path, most)) for path in sorted(ROWS.glob("*.trace"))
+               for most in (1, 40)])
+def row_in_turns(told):
+    """A row's answers, and the fault of a line, by `play_text` of so many lines at most."""
+    path, most = told
+    lines, answers, fault, at = path.read_bytes().splitlines(keepends=True), b"", "", 0
+    turns = random.Random(path.stem)
+    if lines and not lines[-1].endswith(b"\n"):
+        lines[-1] += b"\n"
+    with Mme() as mme:
+        while at < len(lines) and not fault:
+            turn = lines[at:at + turns.randint(1, most)]
+            try:
+                answers += mme.play_text(b"".join(turn) + b"tick")
+            except Refused as refused:
+                answers += refused.answers
+                fault = "mme: line %d: fault %d\n" % (at + refused.line, refused.refusal - 10)
+            at += len(turn)
+    errors = path.with_suffix(".errors")
+    must_be(fault, errors.read_text() if errors.exists() else "")
+    must_be(answers.decode(), path.with_suffix(".answers").read_text())
+
+
 HEAD = [line for line in (ROWS / "attach_whole.trace").read_text().splitlines() if line.split(" ")[0] in ("mme", "sub", "vec")]
 VECTOR = [octets(word) for word in HEAD[2].split(" ")[2:]]
 EVENTS = [line.split(" ") for line in (ROWS / "attach_whole.trace").read_text().splitlines() if line.startswith(("up ", "in "))]
@@ -166,6 +189,25 @@ def ticks_have_a_reply_each():
         must_be([str(out) for out in mme.line("tick 6")], OWED[1:2])
 
 
+@test
+def answers_that_have_no_room():
+    """Where one call of the library has room for few answers, the text's answers are the same."""
+    whole, mme_module = (ROWS / "attach_given_up.trace").read_bytes(), sys.modules["soizkadur.mme"]
+    ticks = whole.count(b"\ntick ")
+    assert ticks > 1, "the row has ticks"
+    lines = [line for line in whole.splitlines(keepends=True) if not line.startswith(b"show ")]
+    for text in (whole, b"".join(lines) + b"tick 70\n"):
+        with Mme() as mme:
+            wanted = mme.play_text(text)
+        for room in (100, 300, 1000):
+            usual, mme_module.TEXT_OCTETS = mme_module.TEXT_OCTETS, room
+            try:
+                with Mme() as mme:
+                    must_be(mme.play_text(text), wanted)
+            finally:
+                mme_module.TEXT_OCTETS = usual
+
+
 # --- Refusals ---
 
 
@@ -179,6 +221,7 @@ def ticks_have_a_reply_each():
     ("line", ("in 0 0",), Refusal.BAD_OCTETS), ("add", (IMSI, 1, 2, 3), Refusal.ORDER),
     ("add", (IMSI, 2**32, 2, 3), Refusal.BAD_NUMBER),
     ("give", (IMSI, b"", b"", b"", b""), Refusal.BAD_OCTETS),
+    ("restored", (b"",), Refusal.NO_SNAPSHOT),
     ("add_live", ("1", 2, 3, 4), Refusal.BAD_NUMBER), ("add_live", (IMSI, 2**32, 3, 4), Refusal.BAD_NUMBER),
     ("add_live", (IMSI, 2, 3, 4), Refusal.PROVISION), ("add_live", ("001010000000002", 0x0A000001, 3, 4), Refusal.PROVISION),
     ("give_live", ("1", bytes(15), bytes(16), bytes(8), bytes(32)), Refusal.BAD_NUMBER),
@@ -211,6 +254,74 @@ def what_is_given_before_the_mme_runs():
         for _ in range(64):
             mme.give_live(IMSI, *VECTOR)
         must_be(answer(mme.give_live, IMSI, *VECTOR), Refusal.PROVISION)
+
+
+# --- Snapshots ---
+
+
+@test
+def saved_and_restored():
+    """The row of a whole attach, by an Mme that is saved and restored after each event."""
+    mme, told = Mme.from_lines(HEAD), []
+    for word, station, *more in EVENTS:
+        told += mme.up(int(station)) if word == "up" else mme.receive(int(station), octets(more[0]))
+        before, parts, snapshot = mme.replies(), list(mme.parts()), mme.save()
+        must_be((mme.replies(), b"".join(parts), len(parts)), (before, snapshot, 3))
+        mme.close()
+        mme = Mme.restored(snapshot)
+        must_be((mme.replies(), mme.save()), ([], snapshot))
+    must_be(list(map(str, told)), OWED)
+    must_be(mme.states(IMSI), States(EmmState.REGISTERED, EcmState.IDLE, EsmState.ACTIVE))
+    mme.close()
+
+
+@test
+def saved_while_phones_attach():
+    """Phones of a laboratory whose Mme another takes the place of, again and again."""
+    with Laboratory(phones=3) as phones_of:
+        for phone in phones_of.phones:
+            phone.asks_to_attach(phones_of.station, phone.slot + 1)
+            restarted(phones_of)
+            phone.authenticates()
+            restarted(phones_of)
+            phone.completes_security()
+            phone.context_is_set_up()
+            restarted(phones_of)
+            phone.completes_attach()
+            must_be(phones_of.states(phone).emm, EmmState.REGISTERED)
+
+
+def restarted(room):
+    """The Mme of a laboratory is one that is restored from its snapshot."""
+    before = room.mme
+    after = Mme.restored(before.save())
+    before.close()
+    before._handle, after._handle = after._handle, before._handle
+
+
+@test
+def snapshots_that_are_refused():
+    """Each refusal of octets, with its place and in words."""
+    with Mme.from_lines([*HEAD, "sub 001010000000002 0a000002 0a000064 00000002"]) as mme:
+        mme.up(0)
+        parts = list(mme.parts())
+    first, count, one, other = parts
+    version = first[0] + 1
+    cases = [(bytes([version]) + b"".join(parts)[1:], Refusal.OTHER_VERSION, version, "version %d: " % version),
+             (b"", Refusal.NO_SNAPSHOT, 2**64 - 1, ""), (b"".join(parts) + b"\0", Refusal.NO_SNAPSHOT, 2**64 - 1, ""),
+             (first.replace(b"internet", b".nternet") + count + one + other, Refusal.NO_SNAPSHOT, 0, "what stands first: "),
+             (first + count + one + one, Refusal.NO_SNAPSHOT, 2**34 + 1, "slot 1: ")]
+    for snapshot, refusal, place, words in cases:
+        try:
+            Mme.restored(snapshot)
+        except Refused as refused:
+            must_be((refused.refusal, refused.place), (refusal, place))
+            must_be(str(refused), "%s%s (%s)" % (words, refusal.words, refusal.name))
+        else:
+            raise AssertionError("it isn't refused")
+    must_be(answer(Mme.restored, b"", 2**64), Refusal.BAD_NUMBER)
+    with begun() as mme:
+        must_be(answer(mme.save), Refusal.NO_MME)
 
 
 @test
@@ -629,6 +740,16 @@ def how_the_documents_provision():
     names = {}
     exec(textwrap.dedent(blocks[0]), names)
     must_be(len(names["phone"].vectors), 100)
+
+
+@test
+def how_the_documents_save():
+    """Under "Save and restore" in docs/LIBRARY.md, what is to be run runs."""
+    text = (TOP / "docs" / "LIBRARY.md").read_text(encoding="utf-8")
+    part = re.search(r"\n## Save and restore\n(.*?)\n## ", text, re.S)[1]
+    blocks = [block for block in re.findall(r"(?:    .*\n|\n(?=    ))+", part) if "with Laboratory" in block]
+    must_be(len(blocks), 1)
+    exec(textwrap.dedent(blocks[0]), {})
 
 
 @test

@@ -4,6 +4,7 @@ kept.
 
     calculator.py          reads calls from standard input
     calculator.py again    plays a trace from standard input, and makes each call again that memory was refused to
+    calculator.py restarted    plays a trace from standard input by MMEs that are saved and restored, as its line `# every N` says
     calculator.py brief    runs each benchmark of bench/ briefly, `steps` over the trace of standard input
     calculator.py --help   prints which calls there are
 

@@ -6,7 +6,7 @@ import pathlib
 import tempfile
 
 from tests.secrets.residue import KINDS, Secret, check_compressed
-from tests.secrets.rounds import LATER, LateRun, Run, live_program
+from tests.secrets.rounds import LATER, LateRun, RestoredRun, Run, live_program
 from tests.secrets.searching import Fault, check_search, forms, searched
 
 PROGRAM = pathlib.Path(__file__).resolve().parents[2] / "crates" / "mme" / "out" / "mme"
@@ -85,6 +85,7 @@ def main(doc):
     which = parser.add_mutually_exclusive_group()
     which.add_argument("--program", metavar="PATH", type=pathlib.Path, default=PROGRAM)
     which.add_argument("--live", metavar="FOLDER", type=pathlib.Path)
+    which.add_argument("--restored", metavar="FOLDER", type=pathlib.Path)
     parser.add_argument("--rounds", metavar="N", type=int, default=ROUNDS)
     parser.add_argument("--tell", action="store_true")
     given = parser.parse_args()
@@ -92,8 +93,9 @@ def main(doc):
         parser.error("--rounds takes 1 or more")
     passed = failed = 0
     with tempfile.TemporaryDirectory() as room:
-        if given.live:
-            make = functools.partial(LateRun, live_program(given.live.resolve(), room), given.rounds)
+        if given.live or given.restored:
+            run, folder = (LateRun, given.live) if given.live else (RestoredRun, given.restored)
+            make = functools.partial(run, live_program(folder.resolve(), room), given.rounds)
         else:
             make = functools.partial(Run, [given.program.resolve(), "play"], given.rounds)
         for what, fault in tests(make, given.tell):

@@ -192,6 +192,18 @@ class Scene:
             phone.is_gone()
 
 
+class SavingScene(Scene):
+    """A scene whose MME is saved once a phone is challenged, and once one has attached."""
+
+    def challenges(self, phone, station=None):
+        super().challenges(phone, station)
+        self.trace.saves()
+
+    def attaches(self, phone, station=None):
+        super().attaches(phone, station)
+        self.trace.saves()
+
+
 # The ways of leaving, each with how many vectors each of its phones is given.
 WAYS = {
     "detached": [1], "detached from idle": [2], "detached at last": [2], "detached while challenged": [2], "switched off": [1],

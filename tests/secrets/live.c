@@ -5,14 +5,18 @@
  *     live    with malloc and realloc wrapped by the linker
  *
  * The first event or question starts the MME. For each line that provisions after that, `told N` has the number that its call
- * answers. A line `refuse N` has the Nth allocation of the next such call refused.
+ * answers. A line `refuse N` has the Nth allocation of the next such call refused. A line `save` has the MME saved part by part,
+ * and is answered by `saved`; `hand` the same, by `handed` and the snapshot in hex. `restore HEX` has the MME end, if one runs, and
+ * the program go on from a snapshot, and is answered by `restored`; with octets that are refused there is no MME then, and it is
+ * answered by `restored N`.
  */
 #define _POSIX_C_SOURCE 200809L
 #include "../library/calls.h"
 
 #include <unistd.h>
 
-#define MOST_READ (1 << 17)    /* octets: more than a pipe holds, and a line */
+#define MOST_SAVED (1 << 19)    /* octets of a snapshot */
+#define MOST_READ (1 << 21)     /* octets: more than a pipe holds, and a line */
 #define MOST_ANSWERED (1 << 22) /* octets of the answers to what is read at once */
 
 /* While a call is made, its allocations are counted, and the one with this number is refused; none is, where it is 0. */
@@ -50,9 +54,58 @@ static uint32_t further(soizkadur_mme *mme, struct span line)
     return answer;
 }
 
+static uint8_t snapshot[MOST_SAVED];
+
+/* Saves the MME, and tells its octets where they are asked for. */
+static void save(soizkadur_mme *mme, struct text *answers, int are_told)
+{
+    size_t total = 0, length = 0;
+    for (uint64_t place = 0; place != SOIZKADUR_SAVED; total += length)
+        must(soizkadur_save(mme, &place, snapshot + total, sizeof snapshot - total, &length) == SOIZKADUR_OK, "a part is saved");
+    print(answers, are_told ? "handed " : "saved");
+    for (size_t at = 0; are_told && at < total; at++) {
+        static const char digits[] = "0123456789abcdef";
+        put(answers, digits + (snapshot[at] >> 4), 1);
+        put(answers, digits + (snapshot[at] & 15), 1);
+    }
+    put(answers, "\n", 1);
+    wipe(snapshot, total);
+}
+
+static unsigned value_of(char digit)
+{
+    return (unsigned)(digit <= '9' ? digit - '0' : digit - 'a' + 10);
+}
+
+/* Restores the MME of octets in hex, in place of one that runs. */
+static void restore(soizkadur_mme *mme, struct span hex, struct text *answers)
+{
+    size_t length = hex.length / 2;
+    uint64_t place = 0;
+    must(length <= sizeof snapshot, "there is room for the snapshot");
+    for (size_t at = 0; at < length; at++)
+        snapshot[at] = (uint8_t)(value_of(hex.at[2 * at]) << 4 | value_of(hex.at[2 * at + 1]));
+    soizkadur_free(mme);
+    uint32_t answer = soizkadur_restore(mme, snapshot, length, UINT64_MAX, &place);
+    wipe(snapshot, length);
+    if (answer == SOIZKADUR_OK)
+        print(answers, "restored\n");
+    else
+        print(answers, "restored %u\n", (unsigned)answer);
+}
+
 static void play(soizkadur_mme *mme, struct span line, struct text *answers)
 {
     static int runs;
+    if (begins(line, "save") || begins(line, "hand")) {
+        save(mme, answers, begins(line, "hand"));
+        return;
+    }
+    if (begins(line, "restore ")) {
+        restore(mme, (struct span){line.at + strlen("restore "), line.length - strlen("restore ")}, answers);
+        runs = 1;
+        return;
+    }
     if (begins(line, "refuse ")) {
         refused = (unsigned long)number(words_of(line).word[1], 10);
         return;

@@ -15,6 +15,7 @@ from tests.secrets.searching import Fault, regions
 from tools.eps import timers
 
 SECONDS = 300  # for the whole run of the program
+NO_SNAPSHOT = 28  # the number of soizkadur.h
 PIPE = 65536  # octets that a pipe holds, and that the program reads at once
 
 
@@ -97,11 +98,16 @@ class Played(phones.Trace):
     def __init__(self, words):
         super().__init__()
         self.heard = 0
-        self.process = subprocess.Popen(words, stdin=subprocess.PIPE, stdout=subprocess.PIPE)
-        self.input = self.process.stdin.fileno()
-        self.late = threading.Timer(SECONDS, self.process.kill)
+        self.words = words
+        self.begin()
+        self.late = threading.Timer(SECONDS, lambda: self.process.kill())
         self.late.daemon = True
         self.late.start()
+
+    def begin(self):
+        """Begins the program."""
+        self.process = subprocess.Popen(self.words, stdin=subprocess.PIPE, stdout=subprocess.PIPE)
+        self.input = self.process.stdin.fileno()
 
     def say(self, line):
         """Plays a line, once all that is owed for the last one has come."""
@@ -173,6 +179,39 @@ class Played(phones.Trace):
             return regions(self.process.pid)
         finally:
             os.kill(self.process.pid, signal.SIGCONT)
+
+    # --- What live.c does besides ---
+
+    def saves(self):
+        """The MME is saved, and what it is saved as overwritten."""
+        self.say("save")
+        self.answers.append("saved")
+
+    def snapshot(self):
+        """The digits of a snapshot of the MME."""
+        self.settle()
+        self.hand(b"hand\n")
+        word, _, snapshot = self.process.stdout.readline().decode().rstrip("\n").partition(" ")
+        if word != "handed":
+            raise Fault("no snapshot, but %s" % word)
+        return snapshot
+
+    def restores(self, snapshot, answer="restored"):
+        """An MME is restored, or what is no snapshot is refused."""
+        self.settle()
+        self.hand(b"restore " + snapshot.encode() + b"\n")
+        self.answers.append(answer)
+        self.settle()
+
+    def is_refused(self, snapshot):
+        """A snapshot without its last octet is refused, and the MME that ran has ended; the memory then."""
+        self.restores(snapshot[:-2], "restored %d" % NO_SNAPSHOT)
+        return self.memory()
+
+    def begins_again(self):
+        """The program ends, and another one begins."""
+        self.process.communicate()
+        self.begin()
 
     def end(self):
         """Ends the program."""

@@ -3,23 +3,25 @@ import pathlib
 import subprocess
 
 from soizkadur.standards import phones
-from tests.secrets.leaving import WAYS, Scene
+from tests.secrets.leaving import WAYS, SavingScene, Scene
 from tests.secrets.played import Phone, Played, random_vector
 from tests.secrets.residue import Secret, of_context, of_vector
+from tests.secrets.searching import searched
 
 HERE = pathlib.Path(__file__).resolve().parent
 LATER, STAYING = "later", "registered"
+STACK = "stack"  # the region of a program's memory
 UNSPENT = 2  # of the phone that stays
 
 
 class Run:
     """The phones of all rounds, and what is looked for."""
 
-    KIND = Phone
+    KIND, SCENE = Phone, Scene
 
     def __init__(self, words, rounds):
         self.trace = Played(words)
-        self.scene = Scene(self.trace)
+        self.scene = self.SCENE(self.trace)
         self.count = 0
         self.staying = self.phone(1 + UNSPENT, STAYING)
         self.rounds = [{way: [self.phone(vectors, way if turn == 0 else LATER) for vectors in given] for way, given in WAYS.items()}
@@ -137,9 +139,10 @@ class LatePhone(Phone):
 
 
 class LateRun(Run):
-    """A run of phones that are provisioned while the MME runs, with vectors that are refused in each round."""
+    """A run of phones that are provisioned while the MME runs, with vectors that are refused in each round. The MME is saved again
+    and again."""
 
-    KIND = LatePhone
+    KIND, SCENE = LatePhone, SavingScene
 
     def __init__(self, words, rounds):
         super().__init__(words, rounds)
@@ -151,10 +154,14 @@ class LateRun(Run):
         """The phones whose vectors are looked for while they aren't spent."""
         return [self.staying, *self.each(self.rounds[0]), self.full, *self.needy]
 
+    def others(self):
+        """The phones that come after them."""
+        return self.each(*self.rounds[1:])
+
     def begin(self):
         self.trace.provision([])
         self.scene.set_up()
-        every = [*self.looked_for(), *self.each(*self.rounds[1:])]
+        every = [*self.looked_for(), *self.others()]
         for phone in sorted(every, key=lambda phone: phone.slot):
             self.trace.say(phone.line)
             self.trace.answers.append(TOLD)
@@ -194,9 +201,87 @@ class LateRun(Run):
                 yield from (("%s of %s" % (kind, phone.whose), octets) for kind, octets in of_vector(vector))
 
 
+EARLY = {"restored challenged": 1, "restored in security mode": 1, "restored connected": 1, "restored idle": 2}
+
+
+class RestoredRun(LateRun):
+    """The same of an MME that another process goes on from, restored while phones are challenged, in security mode and registered. In
+    each later round others are so when the MME is restored again. Each time the same octets but the last one are refused before:
+    nothing stands then of the MME that has ended, and nothing of the octets."""
+
+    def __init__(self, words, rounds):
+        super().__init__(words, rounds)
+        self.stale = []  # for each time that octets were refused, where secrets stood then
+        self.early = [self.phone(vectors, way) for way, vectors in EARLY.items()]
+        self.followers = [[self.phone(vectors, LATER) for vectors in EARLY.values()] for _ in self.rounds[1:]]
+
+    def looked_for(self):
+        return super().looked_for() + self.early
+
+    def others(self):
+        return super().others() + [phone for several in self.followers for phone in several]
+
+    def left(self):
+        return super().left() + [secret for phone in self.early for secret in phone.secrets()]
+
+    def later(self):
+        return super().later() + [secret for several in self.followers for phone in several for secret in phone.secrets()]
+
+    def come(self, challenged, secured, connected, idle):
+        """Phones come to be as their names say."""
+        for phone in challenged, secured:
+            self.scene.challenges(phone)
+        secured.authenticates()
+        for phone in connected, idle:
+            self.scene.attaches(phone)
+        idle.is_released()
+
+    def go(self, challenged, secured, connected, idle):
+        """They leave."""
+        challenged.gives_any_res()
+        secured.rejects_security()
+        connected.detaches()
+        idle.detaches_from_idle(self.scene.there, self.scene.next())
+
+    def refuse(self, snapshot):
+        """What is no snapshot is refused, and nobody's secrets stand anywhere but on the stack."""
+        memory = [region for region in self.trace.is_refused(snapshot) if region.name != STACK]
+        phones = [*self.looked_for(), *self.others()]
+        given = [Secret(phone.whose, kind, octets) for phone in phones for vector in phone.vectors[phone.place:phone.there]
+                 for kind, octets in of_vector(vector)]
+        self.stale.append(searched(given + [secret for phone in phones for secret in phone.secrets()], memory))
+
+    def begin(self):
+        super().begin()
+        self.come(*self.early)
+        snapshot = self.trace.snapshot()
+        self.refuse(snapshot)
+        self.trace.begins_again()
+        self.refuse(snapshot)
+        self.trace.restores(snapshot)
+        self.go(*self.early)
+
+    def play_round(self, turn):
+        super().play_round(turn)
+        if turn is not self.rounds[0]:
+            several = self.followers[self.rounds.index(turn) - 1]
+            self.come(*several)
+            snapshot = self.trace.snapshot()
+            self.refuse(snapshot)
+            self.trace.restores(snapshot)
+            self.go(*several)
+
+    def found_before(self):
+        yield from super().found_before()
+        for number, places in enumerate(self.stale, 1):
+            kinds = sorted({place.secret.kind for place in places})
+            yield "octets that were refused, time %d" % number, "%d places have %s" % (len(places), kinds) if places else None
+
+
 def live_program(library, room):
-    """The words of the program of live.c over the library in a folder."""
+    """The words of the program of live.c over the library in a folder. The loader binds the C library's functions as the program
+    begins: where it binds one at its first call, it saves registers on the stack, with what they hold of a key."""
     program = pathlib.Path(room, "live")
     subprocess.run(["gcc", "-std=c11", "-O2", "-Wall", "-Wextra", "-Wpedantic", "-Werror", "-I", library, HERE / "live.c",
-                    library / "libsoizkadur.a", "-Wl,--wrap=malloc,--wrap=realloc", "-o", program], check=True)
+                    library / "libsoizkadur.a", "-Wl,--wrap=malloc,--wrap=realloc", "-Wl,-z,now", "-o", program], check=True)
     return [program]
