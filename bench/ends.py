@@ -32,8 +32,8 @@ def by_word(run):
 
 
 def by_mme(run):
-    """The MME's process is killed, by which the front ends; with the library both are one."""
-    for pid in run.children() or [run.process.pid]:
+    """The MME's process is killed, by which the front ends; with the library both are one, whatever else it has begun."""
+    for pid in [run.process.pid] if run.is_of_library else run.children() or [run.process.pid]:
         os.kill(pid, signal.SIGKILL)
 
 

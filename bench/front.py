@@ -2,7 +2,7 @@
 """What tools/front takes: messages a second through it, and the time from a message to its answer.
 
     front.py [PROGRAM | --library] [--only WORD ..] [--stations N ..] [--seconds N] [--rounds N] [--rate N] [--beside CLONE ..]
-             [--folder FOLDER] [--etcd]
+             [--folder FOLDER] [--etcd] [--lines N] [--vectors N]
 
 WORD is one of these, and all of them where none is given:
   throughput  stations that each keep messages under way, as many as go; and the processor time of a message: the best of the
@@ -12,8 +12,15 @@ WORD is one of these, and all of them where none is given:
   attaches    500 phones that attach through one station at the front's own rate, all begun at once
   page        stations that together send 1,000 messages a second (--rate) to an MME of 32,768 subscribers, without and with 64
               clients of the page, of all manners (browsers.py)
+  give        with --library: vectors one by one, after a log of as many messages as go; then all subscribers that an MME takes, and
+              eight vectors of each, while one station sends 100 messages a second
+  restart     with --library: 32,768 registered phones after a log of ten million lines (--lines), each phone with --vectors
+              more: the start that plays the whole log, one after an orderly end, one after a kill; and what stations that together
+              send 1,000 messages a second (--rate) wait while snapshots are made one after the other
   standby     with --etcd: stations that together send 5,000 messages a second (--rate) to a leader, which is then killed: how far
               the front that stands by lags, and when it answers
+  saving      with --etcd and --library: the same to an MME of 32,768 subscribers, each with --vectors, without snapshots and while
+              the front that stands by makes one after the other: what stations wait, and how far it lags
 
 Messages are S1 SETUP REQUESTs, 35 octets each, whose answers have 27; each connection is TCP on this machine. PROGRAM is
 ../crates/mme/out/mme where none is given; with --library the MME is in the front's own process, and so is its processor time. Times
@@ -32,6 +39,7 @@ import os
 import pathlib
 import re
 import select
+import signal
 import socket
 import subprocess
 import sys
@@ -41,7 +49,7 @@ import time
 sys.dont_write_bytecode = True
 if __name__ == "__main__":
     sys.path[0] = str(pathlib.Path(__file__).resolve().parent.parent)
-from bench import etcds
+from bench import attaches as attached, etcds
 from reference import lte, phones
 
 TOP = pathlib.Path(__file__).resolve().parent.parent
@@ -53,8 +61,11 @@ UNDER_WAY = 512  # messages that all stations together keep under way, but at le
 RATE, QUIET_RATE, PHONES = 20000, 100, 500
 STORED_RATE, STORED_STATIONS, LAGS = 5000, 20, 40
 PAGED_RATE, PAGED_STATIONS, SUBSCRIBERS, CLIENTS = 1000, 20, 32768, 64
+ALONE, VECTORS = 30, 8  # vectors that are given by themselves, and of each subscriber
 TICKS = os.sysconf("SC_CLK_TCK")
 AT_WILL = ("--rate", "1000000")
+ONE_AFTER_THE_OTHER, NO_MORE, NO_SNAPSHOT = ("--snapshot", "0.01,0.01"), ("--snapshot", "1440,4096"), ("--snapshot", "no")
+SEVERAL_SECONDS = 20  # in which several snapshots are made
 LIBRARY = object()  # in a program's place: the MME in the front's own process
 FRONT = TOP / "tools" / "front"
 Way = collections.namedtuple("Way", "name front words")  # a front that is measured, and its words
@@ -63,11 +74,12 @@ Way = collections.namedtuple("Way", "name front words")  # a front that is measu
 class Front:
     """A front that runs."""
 
-    def __init__(self, program, head, *words, front=FRONT, folder=None):
+    def __init__(self, program, head, *words, front=FRONT, folder=None, room=None):
         mme = ("--library",) if program is LIBRARY else ("--mme", program)
-        self.folder = tempfile.TemporaryDirectory(dir=folder)
-        folder = pathlib.Path(self.folder.name)
-        (folder / "subscribers").write_text(head)
+        self.folder = contextlib.nullcontext() if room else tempfile.TemporaryDirectory(dir=folder)
+        folder = room or pathlib.Path(self.folder.name)
+        if head is not None:
+            (folder / "subscribers").write_text(head)
         self.process = subprocess.Popen(
             [sys.executable, front, "run", folder / "subscribers", folder / "log", "--tcp", "--port", "0",
              "--per-address", "128", "--setup-seconds", "3600", *mme, *words], stderr=subprocess.PIPE, text=True)
@@ -95,6 +107,10 @@ class Front:
             asking.sendall(b"counters\n")
             return json.loads(asking.makefile().readline().partition(" ")[2])
 
+    def snapshot(self):
+        """The last one in the store."""
+        return self.counters().get("snapshot", {"turn": 0, "octets": 0, "seconds": 0})
+
     def turn(self):
         """The last turn that it has committed or played, of a log in a store."""
         return self.counters()["store"]["turn"]
@@ -117,11 +133,12 @@ class Front:
             found.append((int(fields[11]) + int(fields[12])) / TICKS)
         return found
 
-    def close(self):
-        self.process.terminate()
+    def close(self, number=signal.SIGTERM):
+        self.process.send_signal(number)
         self.process.wait()
         self.process.stderr.close()
-        self.folder.cleanup()
+        if isinstance(self.folder, tempfile.TemporaryDirectory):
+            self.folder.cleanup()
 
 
 class Station:
@@ -310,16 +327,56 @@ def attaches_of(given, way):
     front.close()
 
 
-def free_port():
-    with socket.create_server(("127.0.0.1", 0)) as listener:
-        return listener.getsockname()[1]
+def give(given):
+    print("| front | messages in the log | a vector, median and longest, ms | all, s | a message meanwhile: median, 99 of 100, "
+          "the last, ms |\n|---|---|---|---|---|")
+    for way in given.ways if given.program is LIBRARY else ():
+        give_of(given, way)
+
+
+def subscriber(slot):
+    return "sub 00101%010d 0a%06x 0b000001 %08x\n" % (slot + 1, slot + 1, slot + 1)
+
+
+def vector(slot, place):
+    return "vec 00101%010d %08x%024x %032x %016x %064x\n" % (slot + 1, slot, place, slot, slot << 32 | place, slot)
+
+
+def given_alone(front, place):
+    """Gives the first subscriber a vector; how long that takes."""
+    text, begin = vector(0, place).encode(), time.perf_counter()
+    with socket.socket(socket.AF_UNIX) as asking:
+        asking.connect(str(front.control))
+        asking.sendall(b"give %d\n%s" % (len(text), text))
+        assert asking.makefile().readline() == "given 0 subscribers, 1 vector\n"
+    return time.perf_counter() - begin
+
+
+def give_of(given, way):
+    front = begun(given, way, head() + subscriber(0), *AT_WILL)
+    load = Load(front.port, 1)
+    count = len(load.at_will(given.seconds) + load.paced(0, 0))
+    alone = [given_alone(front, place) for place in range(ALONE)]
+    lines = front.control.with_name("given")
+    lines.write_text("".join((subscriber(slot) if slot else "") + "".join(vector(slot, ALONE + place) for place in range(VECTORS))
+                             for slot in range(SUBSCRIBERS)))
+    begin, times = time.perf_counter(), []
+    asking = subprocess.Popen([sys.executable, FRONT, "ask", front.control, "give", lines], stdout=subprocess.PIPE)
+    while asking.poll() is None:
+        times += load.paced(QUIET_RATE, 0.1)
+    seconds = time.perf_counter() - begin
+    assert asking.stdout.read() == b"given %d subscribers, %d vectors\n" % (SUBSCRIBERS - 1, SUBSCRIBERS * VECTORS)
+    print("| %s | %d | %.2f, %.2f | %.2f | %.2f, %.2f, %.2f |" % (
+        way.name, count, share(alone, 0.5), share(alone, 1), seconds, *(share(times, part) for part in (0.5, 0.99, 1))))
+    load.close()
+    front.close()
 
 
 def page(given):
     """The same front without the clients and then with them; each line's memory is the most that there was until its end. The
     clients give way to the others, as if they had a machine of their own."""
-    subscribers = "".join("sub 00101%010d 0a%06x 0b000001 %08x\n" % (slot + 1, slot + 1, slot + 1) for slot in range(SUBSCRIBERS))
-    port = free_port()
+    subscribers = "".join(map(subscriber, range(SUBSCRIBERS)))
+    port = etcds.free_port()
     front = Front(given.program, head() + subscribers, *AT_WILL, "--page", "127.0.0.1:%d" % port)
     load = Load(front.port, PAGED_STATIONS)
     rate = given.rate or PAGED_RATE
@@ -339,6 +396,74 @@ def page(given):
     print("told whole, by the clients' manners:", told.decode().strip())
     load.close()
     front.close()
+
+
+def restart(given):
+    """Each start goes on after the one before, over one log."""
+    if given.program is not LIBRARY:
+        print("restart: the program isn't saved (--library)")
+        return
+    with tempfile.TemporaryDirectory(dir=given.folder) as name:
+        room = pathlib.Path(name)
+        lines = long_log(room, given)
+        print("| start, %d registered phones | lines played | seconds until it serves |\n|---|---|---|" % SUBSCRIBERS)
+        started(room, "the whole log is played", lines).close()
+        front = started(room, "after an orderly end", 0)
+        load = Load(front.port, PAGED_STATIONS)
+        count = len(load.at_will(given.seconds))
+        load.close()
+        front.close(signal.SIGKILL)
+        front = started(room, "after a kill", count)
+        front.close()
+        served_while_it_saves(given, room)
+
+
+def long_log(room, given):
+    """A log in which all subscribers attach and are released, and data waits for each again and again; how many lines it has."""
+    trace, station, made = attached.provisioned(SUBSCRIBERS, 1 + given.vectors)
+    for phone in made:
+        phone.attaches(station, phone.slot + 1)
+        phone.is_released()
+    head = [line for line in trace.lines if line.startswith(("mme ", "sub ", "vec "))]
+    begun = "".join(line + "\n" for line in [*head, "# segment 1, begun for a measure"])
+    (room / "subscribers").write_text("".join(line + "\n" for line in head))
+    (room / "log").write_text(begun)
+    events, each = trace.lines[len(head):], "".join("data %s\n" % phone.imsi for phone in made)
+    with open(room / "log.counts", "w", encoding="ascii") as counts:
+        counts.write(begun + "".join(line + "\n" for line in events))
+        rounds = max(0, given.lines - len(events)) // len(made)
+        for _ in range(rounds):
+            counts.write(each)
+        counts.write("# settled until segment 1, octet 0\n")
+    return len(events) + rounds * len(made)
+
+
+def started(room, what, lines, *words):
+    """A front that goes on, and in a row of the table how long that took."""
+    begin = time.perf_counter()
+    front = Front(LIBRARY, None, *AT_WILL, "--resume", "--answer-seconds", "3600", *(words or NO_MORE), room=room)
+    print("| %s | %d | %.2f |" % (what, lines, time.perf_counter() - begin), flush=True)
+    return front
+
+
+def served_while_it_saves(given, room):
+    """What stations wait for answers without snapshots, and with one after the other."""
+    rate = given.rate or PAGED_RATE
+    rows = ["| %d messages a second | snapshots | answered | median, ms | 99 of 100 within, ms | the last, ms | memory, MiB |"
+            % rate, "|---|---|---|---|---|---|---|"]
+    for what, words in (("none", NO_MORE), ("one after the other", ONE_AFTER_THE_OTHER)):
+        front = started(room, "for " + what, 0, *words)
+        load = Load(front.port, PAGED_STATIONS)
+        load.paced(rate, 2)
+        before = front.counters().get("snapshot", {"number": 0})["number"]
+        times = load.paced(rate, SEVERAL_SECONDS)
+        told = front.counters().get("snapshot", {"number": before, "seconds": 0, "octets": 0})
+        rows.append("| %s | %d of %d octets, the last in %.2f s | %d | %.2f | %.2f | %.2f | %.0f |" % (
+            what, told["number"] - before, told["octets"], told["seconds"], len(times), share(times, 0.5), share(times, 0.99),
+            share(times, 1), front.memory() / (1 << 20)))
+        load.close()
+        front.close()
+    print("\n".join(rows))
 
 
 def standby(given):
@@ -402,12 +527,51 @@ def standby_of(given, way):
         front.close()
 
 
+def saving(given):
+    """What the leader's stations wait, and how far the one that stands by lags, by what that one makes."""
+    if given.program is not LIBRARY or given.members is None:
+        print("saving: with --etcd and --library")
+        return
+    print("| snapshots | answered | median, ms | 99 of 100 within, ms | the last, ms | lag half the time, ms | at most |\n"
+          "|---|---|---|---|---|---|---|")
+    for what, words in (("none", NO_SNAPSHOT), ("one after the other", ONE_AFTER_THE_OTHER)):
+        with contextlib.ExitStack() as after:
+            store, head_of_all = ("--store", etcds.Members(after).urls()), provisioned(given.vectors)
+            leader = Front(LIBRARY, head_of_all, *AT_WILL, *store, *NO_SNAPSHOT, folder=given.folder)
+            other = Front(LIBRARY, head_of_all, *AT_WILL, *store, *words, "--standby", folder=given.folder)
+            load = Load(leader.port, STORED_STATIONS)
+            load.paced(given.rate or STORED_RATE, 2)
+            times = load.paced(given.rate or STORED_RATE, SEVERAL_SECONDS)
+            load.close()
+            child = loaded(given, leader.port)
+            lags, told = lags_of(given, leader, other), other.snapshot()
+            os.kill(child, 9)
+            os.waitpid(child, 0)
+            print("| %s, the last of %d octets in %.1f s | %d | %.2f | %.2f | %.2f | %.1f | %.1f |" % (
+                what, told["octets"], told["seconds"], len(times), *(share(times, part) for part in (0.5, 0.99, 1)),
+                share(lags, 0.5), share(lags, 1)), flush=True)
+            for front in (leader, other):
+                front.close()
+
+
+def provisioned(vectors):
+    """The lines of all subscribers that an MME takes, with so many vectors of each."""
+    lines = [NETWORK.words]
+    for slot in range(SUBSCRIBERS):
+        imsi = "%015d" % (1010000000001 + slot)
+        lines.append("sub %s 0a%06x 0a000064 %08x" % (imsi, slot + 1, slot + 1))
+        lines += ["vec %s %s%024x %032x %016x %064x" % (imsi, "a%07x" % slot, place, slot, slot * 8 + place, slot)
+                  for place in range(vectors)]
+    return "\n".join(lines) + "\n"
+
+
 def main():
     words = argparse.ArgumentParser(description=__doc__, formatter_class=argparse.RawDescriptionHelpFormatter)
     mmes = words.add_mutually_exclusive_group()
     mmes.add_argument("program", metavar="PROGRAM", nargs="?", default=TOP / "crates" / "mme" / "out" / "mme")
     mmes.add_argument("--library", action="store_true")
-    measures = {measure.__name__: measure for measure in (throughput, latency, flood, attaches, page, standby)}
+    measures = {measure.__name__: measure for measure in (
+        throughput, latency, flood, attaches, page, give, restart, standby, saving)}
     words.add_argument("--only", nargs="+", choices=measures, default=list(measures))
     words.add_argument("--stations", nargs="+", type=int, default=[1, 10, 100])
     words.add_argument("--seconds", type=float, default=5.0)
@@ -416,6 +580,8 @@ def main():
     words.add_argument("--beside", nargs="+", metavar="CLONE", type=pathlib.Path, default=[])
     words.add_argument("--folder", type=pathlib.Path)
     words.add_argument("--etcd", action="store_true")
+    words.add_argument("--lines", type=int, default=10000000)
+    words.add_argument("--vectors", type=int, default=8)
     given = words.parse_args()
     given.ways = [Way("--sync " + sync, FRONT, ("--sync", sync)) for sync in ("yes", "no")]
     given.ways += [Way("of " + clone.name, clone / "tools" / "front", ()) for clone in given.beside]

@@ -1,7 +1,8 @@
 #!/usr/bin/env python3
 """A storm of phones while tools/front is killed and begun again, again and again: does it ever use anything twice?
 
-    kills.py [--mme PROGRAM | --library] [--seconds N | --runs N] [--phones N] [--seed N] [--sctp] [--ends WORD ..] [-- WORD ..]
+    kills.py [--mme PROGRAM | --library [--gives] [--source]] [--seconds N | --runs N] [--phones N] [--seed N] [--sctp]
+             [--ends WORD ..] [-- WORD ..]
 
 Phones attach, sleep, come back for service or to update their area, are paged, change stations and detach. The front is ended at
 random moments and begun with --resume. From what stations are sent, and with the keys that phones have, these are checked:
@@ -21,9 +22,11 @@ random moments and begun with --resume. From what stations are sent, and with th
   anew         SIGKILL; the next run is begun without --resume
 Where a front refuses to begin over something that is wrong, that is put right, and it has to begin then.
 
-Words after `--` are the front's. The seed chooses what is done and after how many messages the front is ended; how far the front
-has come by then depends on the machine. Prints what was counted, and each violation with its octets; the status is 1 where there is
-one.
+With --gives, phones are given vectors meanwhile, whose lines stand at the end of the file of subscribers before. With --source,
+that file has no others, and the front asks a source for them (supplying.py). Words after `--` are the front's, such as `--snapshot
+0.005,0.01`, by which the MME is saved every second or so. The seed chooses what is done and after how many messages the front is
+ended; how far the front has come by then depends on the machine. Prints what was counted, and each violation with its octets; the
+status is 1 where there is one.
 """
 import argparse
 import collections
@@ -31,6 +34,7 @@ import contextlib
 import itertools
 import mmap
 import pathlib
+import shlex
 import signal
 import sys
 import tempfile
@@ -42,7 +46,10 @@ if __name__ == "__main__":
 from bench import ends, lives, replays, watch, wire
 from reference import phones
 
+HERE = pathlib.Path(__file__).resolve().parent
 STATIONS = 4
+SPARE = 8  # times as many vectors as phones may use: of those from before a phone's SQN it hears of none
+GIVEN, MOST_LEFT = 0.05, 40  # the share of turns in which a phone is given a vector; of how many it isn't given one more
 PAGED = 0.1  # the share of phones asleep that data come for, before they do anything by themselves
 AT_ONCE = 8  # phones that begin something at a time
 WHOLE_ATTACHES = 2  # that are sent again after each beginning
@@ -64,18 +71,28 @@ class Storm:
         self.chance = self.radio.chance
         self.radio.phones = [lives.Phone(self.radio, slot, ()) for slot in range(given.phones)]
         self.counted, self.names = collections.Counter(), itertools.count()
-        self.logged = set()  # messages that were found in the log
+        self.logged, self.source = set(), []  # messages that were found in the log; the front's words on a source
         self.provision()
         self.link = wire.SctpWire if given.sctp else wire.TcpWire
         self.run, self.stages, self.start, self.begun = None, [], ends.Start(self.folder, self.chance), time.monotonic()
 
     def provision(self):
-        """The file of subscribers, with vectors that nobody ever had."""
+        """The file of subscribers, with vectors that nobody ever had; or without them, which a source supplies then."""
+        count = self.given.vectors * (SPARE if self.given.source else 1)
         for phone in self.radio.phones:
-            phone.is_given([phones.Vector.made("kills %d" % next(self.names)) for _ in range(self.given.vectors)])
+            phone.is_given([phones.Vector.made("kills %d" % next(self.names)) for _ in range(count)])
         self.radio.lines.clear()
         self.radio.provision(self.radio.phones)
-        (self.folder / "subscribers").write_text(self.radio.text())
+        lines = self.radio.text().splitlines(keepends=True)
+        if self.given.source:
+            supply, record = self.folder / "supply", self.folder / "supplied"
+            supply.write_text("".join(line for line in lines if line.startswith("vec ")))
+            record.unlink(missing_ok=True)
+            lines = [line for line in lines if not line.startswith("vec ")]
+            self.source = ["--source", shlex.join(map(str, [sys.executable, "-B", HERE / "supplying.py", supply, record]))]
+            for phone in self.radio.phones:
+                phone.vectors = phone.vectors[:self.given.vectors]
+        (self.folder / "subscribers").write_text("".join(lines))
 
     # Beginnings.
 
@@ -83,7 +100,7 @@ class Storm:
         """Begins a run; whether it serves within so long, or in time."""
         self.counted["beginnings"] += 1
         self.run = wire.Run(self.folder, self.room.name, self.given.mme, self.link.WORD, "--second", str(self.given.second),
-                            *self.given.words, *words)
+                            *self.source, *self.given.words, *words)
         return self.run.serves(seconds)
 
     def begin_after_all(self):
@@ -159,6 +176,8 @@ class Storm:
     def act(self):
         """Some phones do something, and what comes is heard."""
         radio, now = self.radio, time.monotonic()
+        if self.given.gives and self.chance.random() < GIVEN and self.run.may_give():
+            self.give(self.chance.choice(radio.phones))
         free = [phone for phone in radio.phones if phone.is_free]
         for phone in self.chance.sample(free, min(len(free), AT_ONCE)):
             if phone.is_asleep and self.chance.random() < PAGED:
@@ -170,6 +189,19 @@ class Storm:
                 phone.gives_up()
         radio.turn(0.01)
 
+    def give(self, phone):
+        """A phone is given a vector, unless it has many."""
+        if len(phone.vectors) - len(phone.rands) > MOST_LEFT:
+            return
+        vector = phones.Vector.made("kills %d" % next(self.names))
+        line = vector.words(phone.imsi)
+        with open(self.folder / "subscribers", "a", encoding="ascii") as subscribers:
+            subscribers.write(line + "\n")
+        phone.vectors.append(vector)
+        phone.by_rand[vector.rand] = vector
+        self.run.gives(line)
+        self.counted["vectors given"] += 1
+
     def close(self, number=signal.SIGKILL):
         """The run is over, or is ended."""
         if self.run is not None:
@@ -180,6 +212,10 @@ class Storm:
         self.close(number)
         self.radio.drain()
         self.counted["runs that went on without a log"] += ends.WITHOUT_LOG in self.run.said()
+        record = self.folder / "supplied"
+        self.counted["requests to the source"] = len(record.read_text().splitlines()) if record.exists() else 0
+        numbers = [int(path.suffix[1:]) for path in self.folder.glob("log.snapshot.*[0-9]")]
+        self.counted["snapshots"] = max([self.counted["snapshots"], *numbers])
 
     # After a beginning.
 
@@ -286,6 +322,10 @@ def parser(description=__doc__, of_storm=Storm):
     words.add_argument("--vectors", type=int, default=64, help="of a phone, up to 64; 64 where not given")
     words.add_argument("--seed", type=int, default=1, help="1 where not given")
     words.add_argument("--second", type=float, default=0.1, help="the length of a tick; 0.1 s where not given")
+    words.add_argument("--gives", action="store_true", help="phones are given vectors")
+    words.set_defaults(source=False)
+    if of_storm is Storm:
+        words.add_argument("--source", action="store_true", help="with --library: phones are supplied with their vectors")
     words.add_argument("--sctp", action="store_true", help="by SCTP, in place of TCP")
     words.add_argument("--ends", nargs="+", choices=of_storm.ENDS, default=["kill"])
     words.add_argument("--folder", type=pathlib.Path, help="a folder for the log and what the front says, which stay; none that "

@@ -1,7 +1,7 @@
 #!/usr/bin/env python3
 """A long run of tools/front under mixed load: phones attach, sleep, are paged, come back, update their area, change stations and
-detach; other stations send set-ups as fast as they are answered; each minute a station is lost and comes again, and further
-vectors are given. At the end each phone has the states that it is owed, and the log, played again, has what was sent.
+detach; other stations send set-ups as fast as they are answered; each minute a station is lost and comes again. At the end each
+phone has the states that it is owed, and the log, played again, has what was sent.
 
     soak.py [PROGRAM] [--minutes N] [--phones N] [--second SECONDS]
 
@@ -26,7 +26,7 @@ from bench import front as through
 from reference import lte, phones
 
 STATIONS, FLOODING, FLOOD_RATE = 4, 3, 300
-FIRST_VECTORS, MORE_VECTORS, MOST_VECTORS = 8, 4, 64
+VECTORS = 64  # of each phone, which an MME takes at the most
 
 
 class Soak(phones.Trace):
@@ -35,7 +35,7 @@ class Soak(phones.Trace):
     def __init__(self, program, count, second):
         super().__init__()
         self.chance, self.radio_ids = random.Random(7), iter(range(1, 1 << 24))
-        self.phones = [phones.Phone(self, slot, self.vectors(slot, 0, FIRST_VECTORS)) for slot in range(count)]
+        self.phones = [phones.Phone(self, slot, self.vectors(slot)) for slot in range(count)]
         self.provision(self.phones)
         self.front = through.Front(program, self.text(), "--segments", "1000", "--second", str(second))
         self.control = self.front.folder.name + "/log.control"
@@ -48,8 +48,8 @@ class Soak(phones.Trace):
             self.connect(station)
 
     @staticmethod
-    def vectors(slot, start, count):
-        return [phones.Vector.made("%d.%d" % (slot, place)) for place in range(start, start + count)]
+    def vectors(slot):
+        return [phones.Vector.made("%d.%d" % (slot, place)) for place in range(VECTORS)]
 
     # Stations.
 
@@ -109,14 +109,14 @@ class Soak(phones.Trace):
         self.lines.clear()
         self.answers.clear()
 
-    def ask(self, *words, more=b""):
-        """What the front answers to a line at its control socket, with what follows the line."""
+    def ask(self, *words):
+        """What the front answers to a line at its control socket."""
         with socket.socket(socket.AF_UNIX) as asking:
             asking.settimeout(120)
             asking.connect(self.control)
-            asking.sendall(" ".join(words).encode() + b"\n" + more)
+            asking.sendall(" ".join(words).encode() + b"\n")
             answer = asking.makefile().readline()
-        if not answer.startswith(("taken", "given", *words[:1])):
+        if not answer.startswith(("taken", *words[:1])):
             raise SystemExit("soak.py: %s: %s" % (" ".join(words), answer))
         return answer
 
@@ -174,18 +174,6 @@ class Soak(phones.Trace):
             phone.completes_update(from_idle=False)
         else:
             phone.is_released()
-
-    def give(self):
-        """Further vectors for those who have few."""
-        lines = []
-        for phone in self.phones:
-            if len(phone.vectors) - phone.place < 2 and len(phone.vectors) + MORE_VECTORS <= MOST_VECTORS:
-                more = self.vectors(phone.slot, len(phone.vectors), MORE_VECTORS)
-                lines += [vector.words(phone.imsi) for vector in more]
-                phone.vectors += more
-        if lines:
-            octets = "\n".join(lines).encode() + b"\n"
-            self.ask("give", str(len(octets)), more=octets)
 
     def check_states(self):
         """Each phone has the states that it is owed."""
@@ -252,7 +240,6 @@ def main():
             station = soak.stations[minute % STATIONS]
             soak.lose(station)
             soak.connect(station)
-            soak.give()
             (front_memory, front_files), (mme_memory, mme_files) = map(usage, soak.front.processes())
             print("| %d | %d | %.1f | %d | %.1f | %d |"
                   % (minute, soak.sent, front_memory, front_files, mme_memory, mme_files), flush=True)

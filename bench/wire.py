@@ -139,8 +139,10 @@ class Run:
     def __init__(self, folder, room, program, *words, front=(FRONT,)):
         self.log, self.words_said, self.port, self.mmes = folder / "log", folder / "said", None, []
         self.asking = []  # connections to the control socket whose answers are due
+        self.giving, self.gives_no_more = None, False  # the same of what is given; whether something wasn't
         self.control = pathlib.Path(room, "control")
-        mme = ["--library"] if program is LIBRARY else ["--mme", program]
+        self.is_of_library = program is LIBRARY
+        mme = ["--library"] if self.is_of_library else ["--mme", program]
         given = [sys.executable, *front, "run", folder / "subscribers", self.log, "--control", self.control,
                  "--port", "0", "--per-address", "128", "--setup-seconds", "3600", "--segments", "10000", "--answer-seconds", "120",
                  *mme, *words]
@@ -201,6 +203,28 @@ class Run:
                 asking.connect(str(self.control))
                 asking.send(" ".join(words).encode() + b"\n")
 
+    def may_give(self):
+        """Whether all that was given is known to stand in the log."""
+        if self.giving is not None:
+            try:
+                self.gives_no_more = not self.giving.recv(PIECE).startswith(b"given ")
+            except BlockingIOError:
+                return False
+            except OSError:
+                self.gives_no_more = True
+            self.giving.close()
+            self.giving = None
+        return not self.gives_no_more
+
+    def gives(self, line):
+        """Gives a line of provisioning, where all before it stand in the log, and leaves the answer."""
+        self.giving = socket.socket(socket.AF_UNIX)
+        self.giving.setblocking(False)
+        octets = line.encode() + b"\n"
+        with contextlib.suppress(OSError):
+            self.giving.connect(str(self.control))
+            self.giving.send(b"give %d\n" % len(octets) + octets)
+
     def states(self):
         """The states of all phones, by IMSI."""
         word, _, rest = self.asks("phones").partition(" ")
@@ -220,8 +244,9 @@ class Run:
         if self.process.poll() is None:
             self.process.send_signal(number)
         self.process.wait(END_SECONDS)
-        while self.asking:
-            self.asking.pop().close()
+        for asking in (*self.asking, *filter(None, [self.giving])):
+            asking.close()
+        self.asking, self.giving = [], None
         while self.mmes:
             mme = self.mmes.pop()
             if not select.select([mme], [], [], END_SECONDS)[0]:

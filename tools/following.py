@@ -34,14 +34,25 @@ def clock_text(clock):
 class Clocks:
     """The times of day of a trace, by the lines after which they stand."""
 
-    def __init__(self, octets):
+    def __init__(self, octets, first=""):
         self.lines, self.times = [], []
+        begun = clock_of(b"# time %s" % first.encode())
+        if begun is not None:
+            self.lines.append(0)
+            self.times.append(begun)
         if b"# time " in octets:
             for number, line in enumerate(octets.split(b"\n"), 1):
                 told = clock_of(line)
                 if told is not None:
                     self.lines.append(number)
                     self.times.append(told)
+
+    @classmethod
+    def of(cls, path, trace):
+        """Those of a trace by its path; of a log that is read from a snapshot on, from when that was made."""
+        if trace.rest:
+            return cls(trace.rest.octets, trace.rest.made)
+        return cls(b"" if path == "-" else runs.read_file(path))
 
     def at(self, line):
         """The time of an event by its line, or nothing where none stands before it."""
@@ -103,7 +114,7 @@ class Playing:
             return None
         step = runs.Step(runs.event_of(None, word, fields), self.second)
         mark = b"data " + runs.unknown_imsi(self.imsis).encode()
-        self.second += step.event.ticks or 0
+        self.second = step.end
         self.give(text, mark)
         for line in self.process.stdout:
             for answer in runs.read_answers(line, "the program's answers"):

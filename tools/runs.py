@@ -41,12 +41,17 @@ SYSTEM = pathlib.Path(__file__).resolve().parent.parent / "mme"
 NO_KEY, LEFT_OUT = "-", "# left out at octet "
 NO_KEYS = "the trace is a log without keys, which `tools/front fill` puts back"
 
-# How a comment of a log begins, above a `cancel` by which the front begins a subscriber anew (tools/fronting/giving.py).
+# How a line of a log begins that is `sub` or `vec`, and was given where it stands (tools/fronting/adding.py). `mme play` skips it.
+FURTHER = "#+ "
+GIVEN_LATER = "the trace has lines of provisioning where they were given (`#+ `), which `tools/front fill --head` puts into its head"
+
+# How a comment of a log began, above a `cancel` by which a front with a program began a subscriber anew. None writes it any more.
 BEGUN_ANEW = "# begun anew: "
 
 Event = collections.namedtuple("Event", "line word station octets ticks imsi is_anew", defaults=[None, None, None, None, False])
 Answer = collections.namedtuple("Answer", "word owner station octets imsi states fault", defaults=[None] * 6)
-Trace = collections.namedtuple("Trace", "head imsis events")
+# `rest` has what a log has besides that is read from a snapshot on (tools/fronting/rest.py).
+Trace = collections.namedtuple("Trace", "head imsis events rest", defaults=[None])
 
 
 class Fault(Exception):
@@ -65,6 +70,11 @@ class Step:
 
     def __init__(self, event, second, answers=()):
         self.event, self.second, self.answers = event, second, list(answers)
+
+    @property
+    def end(self):
+        """The second once it has happened: for a tick the one that it ends in."""
+        return self.second + (self.event.ticks or 0)
 
 
 @functools.lru_cache(1)
@@ -192,11 +202,14 @@ def read_trace(octets, name="trace"):
     imsis, known, events, is_begun = [], set(), [], False
     if found := LATER_SEGMENT.match(octets):
         number = int(found[1])
-        raise Fault("%s: this is segment %d of a front's log, which goes on after %s: join them by `cat` in this order, it last" % (
-            name, number, earlier_segments(name, number)))
+        raise Fault("%s: this is segment %d of a front's log, which goes on after %s: join them by `cat` in this order, it last; "
+                    "if one is gone, give the log itself, which is read from a snapshot on" % (
+                        name, number, earlier_segments(name, number)))
 
     def read(line, text):
         nonlocal is_begun
+        if is_begun and not events and text.startswith(b"vec ") and text.count(b" ") == PROVISIONING["vec"]:
+            return
         event = usual_event(line, text) if events else None
         if event:
             events.append(event)
@@ -332,9 +345,14 @@ def is_certain(answer, certain):
     return answer._replace(states=None) == certain
 
 
+def begun(trace):
+    """The second at which a trace begins."""
+    return trace.rest.remembered.second if trace.rest else 0
+
+
 def started(trace):
     """The steps of a trace without answers: an event stands at the second in which it happens, a tick at its beginning."""
-    steps, second = [], 0
+    steps, second = [], begun(trace)
     for event in trace.events:
         steps.append(Step(event, second))
         second += event.ticks or 0
@@ -343,7 +361,7 @@ def started(trace):
 
 def end_of(steps):
     """The second after the last step."""
-    return steps[-1].second + (steps[-1].event.ticks or 0) if steps else 0
+    return steps[-1].end if steps else 0
 
 
 # --- Which event caused an answer ---
@@ -735,4 +753,8 @@ def run_of(trace_path, answers_path, program=None):
     comments = [] if program else read_told(octets, trace_path)
     if not trace.events:
         return trace, []
-    return trace, told(trace, comments) if comments else played(trace, program or SYSTEM)
+    if comments:
+        return trace, told(trace, comments)
+    if b"\n" + FURTHER.encode() in octets:
+        versions.complain(GIVEN_LATER + ": they are skipped here")
+    return trace, played(trace, program or SYSTEM)

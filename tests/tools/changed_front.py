@@ -8,6 +8,11 @@
     ahead      its time of day is an hour later
     unheld     answers go out before their turn is committed, which has to be found
     unfenced   a turn is written whoever leads, which has to be found
+    waiting    messages are held longer for vectors, as tests have to on a machine with other work
+    restless   the front looks often whether a snapshot is due, and rests a shorter time after each
+    parted     snapshots in the store have many small parts
+    greedy     the turns before the newer snapshot in the store go, which has to be found
+    premature  a snapshot in the store is named before its parts are there, which has to be found
     hanging    the loop turns no more once a station sends f5
 """
 import datetime
@@ -21,11 +26,11 @@ if __name__ == "__main__":
     TOP = pathlib.Path(__file__).resolve().parents[2]
     sys.path[0] = str(TOP)
     sys.path.append(str(TOP / "python"))
-from tools.fronting import command, crowd, exchange, limits, resuming, standby, stored
+from tools.fronting import command, crowd, exchange, front, limits, resuming, standby, stored, storing
 
 SILENCE_SECONDS, SHORTER, UNCOMMITTED_SECONDS = 1, 0.3, 60
-HANGING_SECONDS = 1
-LINES_OCTETS, BRIEF_SECONDS = 100, 2
+HANGING_SECONDS, HELD_SECONDS, RESTLESS_SECONDS, BRIEF_SECONDS = 1, 30, 0.05, 2
+PART_OCTETS, PART_SECONDS, PREMATURE_SECONDS = 64, 0.02, 5
 
 
 def hurried():
@@ -41,7 +46,7 @@ def patient():
 
 
 def brief():
-    limits.LONGEST_STORED, limits.UNCOMMITTED_SECONDS = LINES_OCTETS, BRIEF_SECONDS
+    limits.UNCOMMITTED_SECONDS = BRIEF_SECONDS
 
 
 def ahead():
@@ -60,6 +65,42 @@ def unfenced():
     stored.Scheme.step = lambda self, *given: json.dumps({**json.loads(step(self, *given)), "compare": []}).encode()
 
 
+def waiting():
+    limits.HELD_SECONDS = HELD_SECONDS
+
+
+def restless():
+    front.CARE_SECONDS = limits.SNAPSHOT_REST = limits.SNAPSHOT_AGAIN = RESTLESS_SECONDS
+    limits.SNAPSHOT_SHARE, limits.SNAPSHOT_LEAST = 0, 1
+
+
+def parted():
+    write, storing.Deposit.PIECE = storing.Deposit.write, PART_OCTETS
+
+    def slow(self, octets):
+        write(self, octets)
+        time.sleep(PART_SECONDS)
+
+    storing.Deposit.write = slow
+
+
+def greedy():
+    clear_turns = storing.Deposit.clear_turns
+    storing.Deposit.clear_turns = lambda self, last: clear_turns(self, self.moment.number)
+
+
+def premature():
+    waiting, go_on, name = [], storing.Deposit.go_on, storing.Deposit.name
+
+    def named(self):
+        name(self)
+        time.sleep(PREMATURE_SECONDS)
+        for part in waiting:
+            go_on(self, *part)
+
+    storing.Deposit.go_on, storing.Deposit.name = lambda self, *part: waiting.append(part), named
+
+
 def hanging():
     limits.HANGING_SECONDS, put = HANGING_SECONDS, crowd.Crowd.put
 
@@ -71,7 +112,8 @@ def hanging():
     crowd.Crowd.put = hangs
 
 
-CHANGES = {change.__name__: change for change in (hurried, hasty, patient, brief, ahead, unheld, unfenced, hanging)}
+CHANGES = {change.__name__: change for change in (hurried, hasty, patient, brief, ahead, unheld, unfenced, waiting, restless,
+                                              parted, greedy, premature, hanging)}
 
 if __name__ == "__main__":
     while sys.argv[1] in CHANGES:

@@ -183,6 +183,10 @@ class Running:
         """The log from its first event on, without ticks and comments."""
         return events_of(self.log.read_text())
 
+    def busy(self):
+        """The seconds of a processor that its loop has taken: however busy the machine is, these are its own."""
+        return int(pathlib.Path("/proc/%d/schedstat" % self.process.pid).read_text().split()[0]) / 1e9
+
     def until(self, holds):
         end = time.monotonic() + PATIENCE
         while not holds():

@@ -207,8 +207,8 @@ STATION = PHONES.Station(0)
 class Field:
     """A station with phones, over as many runs of a front as there are."""
 
-    def __init__(self, test, room, count, seed, words=()):
-        self.test, self.words, self.chance = test, words, random.Random(seed)
+    def __init__(self, test, room, count, seed, words=(), program=PROGRAM):
+        self.test, self.words, self.program, self.chance = test, words, program, random.Random(seed)
         self.freshness, self.disk = Freshness(), Disk(room, self.chance)
         self.phones = [Phone(slot, self.freshness, self.chance) for slot in range(count)]
         trace = PHONES.Trace()
@@ -221,7 +221,7 @@ class Field:
         """The front, after a power cut or for the first time."""
         boot = boot or "%032x" % next(self.boots)
         self.running = Running(self.test, "--resume", "--second", "3600", "--rate", "100000", *self.words, head=self.head,
-                               program=PROGRAM, folder=self.disk.folder, environment=self.disk.environment(boot))
+                               program=self.program, folder=self.disk.folder, environment=self.disk.environment(boot))
         self.test.assertIn(b"ready: stations", self.running.told, self.running.process.poll())
         self.connection = self.running.station()
         self.connection.says(LTE.s1_setup_request(PHONES.Network(), STATION))

@@ -12,7 +12,10 @@ PATIENCE = 60  # seconds for what takes a moment where the machine has nothing e
 
 
 class Running:
-    """A source as a process. It is ended by its own number."""
+    """A source as a process. It is ended by its own number. One that asks an HSS says first that it is to be told where phones
+    are."""
+
+    FIRST = {"s6a": "takes registered gone"}
 
     def __init__(self, test, tool, *words, before=None, cwd=tools.TOP):
         self.process = subprocess.Popen([sys.executable, "-B", tools.TOP / "tools" / tool, *map(str, words)], stdin=subprocess.PIPE,
@@ -20,6 +23,8 @@ class Running:
         self.got, self.told = b"", b""
         os.set_blocking(self.process.stderr.fileno(), False)
         test.addCleanup(self.end)
+        if tool in self.FIRST:
+            test.assertEqual(self.line(), self.FIRST[tool])
 
     def say(self, *lines):
         """Writes requests."""

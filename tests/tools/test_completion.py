@@ -47,7 +47,7 @@ class Completion(unittest.TestCase):
     def test_tools(self):
         """A tool's own options, its commands, and files."""
         self.assertEqual(offered("_mme_tool", "tools/show", "--"), sorted(["--help", "--version", "--brief", "--json", "--reset"]))
-        self.assertEqual(offered("_mme_tool", "tools/front", ""), ["ask", "fill", "run"])
+        self.assertEqual(offered("_mme_tool", "tools/front", ""), ["ask", "fill", "play", "run", "snapshot"])
         self.assertIn("--wait", offered("_mme_tool", "tools/front", "ask", "--"))
         self.assertNotIn("--wait", offered("_mme_tool", "tools/front", "run", "--"))
         self.assertIn("--listen", offered("_mme_tool", "tools/front", "run", "--li"))

@@ -22,7 +22,10 @@ import unittest.mock
 from tests.tools import tools
 from tests.tools.fronted import HEAD, IMSI, STAND_IN, Running
 from tools import runs
+from tools.diameter import command as s6a_command
 from tools.fronting import command, faults, limits
+from tools.sourcing import private
+from tools.sourcing.words import Fault
 from tools.tunnels import command as gateway_command, limits as gateway_limits
 
 UNIT, CONTAINER, README = (tools.TOP / "deploy" / name for name in ("soizkadur@.service", "Containerfile", "README.md"))
@@ -40,6 +43,16 @@ def analyzed(*words, path=UNIT):
         unit = pathlib.Path(folder, path.name)
         unit.write_text(path.read_text().replace(INSTALLED + "tools", str(tools.TOP / "tools")))
         return subprocess.run(["systemd-analyze", *words, unit], capture_output=True, timeout=60, check=False)
+
+
+def analyzed_with(more):
+    """What systemd-analyze finds wrong in the front's unit with a file of more lines."""
+    with tempfile.TemporaryDirectory() as folder:
+        unit, place = pathlib.Path(folder, UNIT.name), pathlib.Path(folder, UNIT.name + ".d")
+        unit.write_text(UNIT.read_text().replace(INSTALLED + "tools", str(tools.TOP / "tools")))
+        place.mkdir()
+        shutil.copy(more, place)
+        return subprocess.run(["systemd-analyze", "verify", unit], capture_output=True, timeout=60, check=False)
 
 
 def lines_of(path):
@@ -237,12 +250,54 @@ class Standby(unittest.TestCase):
     @unittest.skipUnless(shutil.which("systemd-analyze"), "no systemd-analyze")
     def test_verify(self):
         """The unit with what is added."""
-        with tempfile.TemporaryDirectory() as folder:
-            unit, more = pathlib.Path(folder, UNIT.name), pathlib.Path(folder, UNIT.name + ".d")
-            unit.write_text(UNIT.read_text().replace(INSTALLED + "tools", str(tools.TOP / "tools")))
-            more.mkdir()
-            shutil.copy(self.FOLDER / "store.conf", more)
-            done = subprocess.run(["systemd-analyze", "verify", unit], capture_output=True, timeout=60, check=False)
+        done = analyzed_with(self.FOLDER / "store.conf")
+        self.assertEqual((done.returncode, done.stdout, done.stderr), (0, b"", b""))
+
+
+class Source(unittest.TestCase):
+    """What deploy/source adds to the unit, of which `mme-vectors` and `mme-s6a` are a package's."""
+
+    FOLDER = tools.TOP / "deploy" / "source"
+
+    def source(self, words):
+        """The words of a front's source, as the front reads them."""
+        _, *words = front_words(runtime="/run", state="/var/lib", address="192.0.2.1", words=words)
+        given = command.parser("").parse_args(words)
+        command.read_source(given)
+        self.assertEqual((given.library, str(given.add.network)), (True, "10.45.0.0/16"))
+        return given.source
+
+    def test_words(self):
+        """The front takes them, and each source its own; the SIMs are the credential, and their SQNs stand where the service may
+        write."""
+        text = (self.FOLDER / "01.environment").read_text()
+        [words] = re.findall(r"^WORDS=((?:.*\\\n)*.*)", text, re.MULTILINE)
+        [(name, path)] = re.findall("^LoadCredential=(.*):(.*)$", (self.FOLDER / "source.conf").read_text(), re.MULTILINE)
+        state = "/var/lib/%s/" % lines_of(UNIT)["StateDirectory"].replace("%i", "01")
+        program, *given = self.source(words.replace("\\\n", " "))
+        self.assertEqual((program, given), ("mme-vectors", [
+            "serve", "/run/credentials/soizkadur@01.service/" + name, state + "sqns"]))
+        self.assertIn("sudo install -D -m 600 sims %s\n" % path.replace("%i", "01"), text)
+        [asked] = re.findall("^# +(--source .*)$", text, re.MULTILINE)
+        program, *given = self.source(words.partition("\\")[0] + asked)
+        self.assertEqual((program, s6a_command.parser("").parse_args(given).plmn), ("mme-s6a", ("001", "01")))
+
+    def test_credential(self):
+        """A credential may be its group's to read as far as its mode says, and no other file; none may be written by others."""
+        folder = pathlib.Path(self.enterContext(tempfile.TemporaryDirectory()))
+        for mode, is_taken in ((0o400, (True, True)), (0o440, (True, False)), (0o444, (False, False)), (0o460, (False, False))):
+            (folder / "sims").write_bytes(b"")
+            (folder / "sims").chmod(mode)
+            for named, wanted in zip((folder, folder.parent), is_taken):
+                refuses = contextlib.nullcontext() if wanted else self.assertRaisesRegex(Fault, "others than its owner")
+                with unittest.mock.patch.dict(os.environ, CREDENTIALS_DIRECTORY=str(named)), self.subTest(mode=oct(mode)), refuses:
+                    private.opened(folder / "sims").close()
+            (folder / "sims").unlink()
+
+    @unittest.skipUnless(shutil.which("systemd-analyze"), "no systemd-analyze")
+    def test_verify(self):
+        """The unit with what is added."""
+        done = analyzed_with(self.FOLDER / "source.conf")
         self.assertEqual((done.returncode, done.stdout, done.stderr), (0, b"", b""))
 
 

@@ -260,6 +260,18 @@ class Again(unittest.TestCase):
                 self.assertEqual(hss.read(connected.wire.sent.pop()).avps[RESULT, 0], [(2001).to_bytes(4, "big")])
         self.assertEqual(connected.wire.sent, [])
 
+    def test_not_written(self):
+        """One that comes again before its line is written isn't done twice; both are answered once it is."""
+        connected, written = Connected(), []
+        cancel = next(octets for octets in good_messages((9, 9)) if hss.read(octets).code == CLR)
+        connected.output.put = lambda text, then: written.append((text, then))
+        for _ in range(2):
+            connected.wire.heard(cancel)
+        self.assertEqual(connected.wire.sent, [])
+        [(text, then)] = written
+        then()
+        self.assertEqual((text, len(connected.wire.sent)), ("cancel %s\n" % IMSI, 2))
+
 
 class Mutated(unittest.TestCase):
     def test_in_place(self):

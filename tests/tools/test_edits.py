@@ -193,6 +193,14 @@ class Fitting(unittest.TestCase):
             refused, left = trial.try_batch([(self.edit, verdicts.place_of_edit(trial.crate, self.edit))])
             self.assertEqual((left, len(refused)), ([self.edit] if is_left else [], int(not is_left)))
 
+    def test_what_can_not_be_applied(self):
+        """It is left to be tried alone, where rt says why."""
+        for why, together in ((None, [1]), ("an 'old:' text is in src/reader.rt 2 times, and not once", [])):
+            trial = self.trial()
+            trial.rt.edited = lambda text, folder: (None if why else {}, why)
+            batches, alone = trial.batches([self.edit])
+            self.assertEqual((list(map(len, batches)), alone), (together, [self.edit] if why else []))
+
     def test_without_what_does_not_fit(self):
         """The second check has the answers that fit alone, and is of the function alone."""
         self.fitted("%sfn %s: %s" % (BY_NAME, ALIGN, NOT_PROVED), "fn %s: %s" % (ALIGN, PROVED))

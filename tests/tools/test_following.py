@@ -9,12 +9,19 @@ import tempfile
 import time
 import unittest
 
+from reference import lte, phones
 from tests.tools import tools
-from tests.tools.fronted import HEAD, STAND_IN
+from tests.tools.fronted import FRAME, HEAD, IMSI, STAND_IN
 from tools import captures, following
 
 FIRST = "# segment 1, begun 2026-11-27 06:00:00 UTC\n"
 EVENTS = ["up 0", "in 0 0011001f00", "in 0 aabb", "tick 1", "lost 0", "up 3", "in 3 cc"]
+PAGING = lte.paging(phones.Network(), IMSI, 1, 1)
+# A program that pages each second, and reads a file where one is named.
+PAGES = FRAME.replace("sys.stdin", "open(sys.argv[2]) if sys.argv[2:] else sys.stdin") % """\
+    elif word == "tick":
+        print("out s0 0 %s")
+""" % PAGING.hex()
 BASE = 1795759200  # 2026-11-27 06:00:00 UTC
 
 
@@ -22,6 +29,11 @@ def timed(events):
     """The events, each after the time of day at which it came, half a second after the one before."""
     return "".join("# time 2026-11-27 06:00:%02d.%03d\n%s\n" % (place // 2, place % 2 * 500, event)
                    for place, event in enumerate(events))
+
+
+def paged_at(octets):
+    """When each PAGING of a capture was sent, in microseconds since the trace began."""
+    return [frame.time // 1000 - BASE * 10**6 for frame in captures.read_capture(octets).frames if PAGING in frame.octets]
 
 
 class Following(unittest.TestCase):
@@ -58,15 +70,26 @@ class Following(unittest.TestCase):
         told = [line.split("at ")[1] for line in done.stdout.decode().splitlines() if " at 06:" in line]
         self.assertEqual(told, ["06:00:00.000", "06:00:02.000"])
 
+    def test_ticks(self):
+        """What a tick brings about has the time of day above the tick, in each capture and in a chart."""
+        self.program.write_text(PAGES)
+        self.trace.write_text(HEAD + FIRST + timed(["up 0", "data " + IMSI, "tick 1", "data " + IMSI, "tick 1"]))
+        whole = tools.ran("capture", "out", self.trace, "--mme", self.program)
+        self.assertEqual(whole.returncode, 0, whole.stderr)
+        self.assertEqual(paged_at(whole.stdout), [1000000, 2000000])
+        out, running = self.followed()
+        self.until(lambda: paged_at(out.read_bytes()) == [1000000, 2000000], out)
+        running.send_signal(signal.SIGTERM)
+        self.assertEqual(running.wait(20), 0)
+        done = tools.ran("chart", self.trace, "--mme", self.program)
+        self.assertEqual(done.returncode, 0, done.stderr)
+        told = [line.split("at ")[1] for line in done.stdout.decode().splitlines() if " at 06:" in line]
+        self.assertEqual(told, ["06:00:00.000", "06:00:01.000", "06:00:02.000"])
+
     def test_follow(self):
         """Each packet comes once its line does, over a segment that ends, and what is written after that."""
         self.trace.write_text(HEAD + FIRST + timed(EVENTS[:3]))
-        out = self.folder / "run.pcapng"
-        with open(out, "wb") as file:
-            running = subprocess.Popen([sys.executable, tools.TOP / "tools" / "capture", "out", self.trace, "--follow", "--mme",
-                                        self.program], stdout=file)
-        self.addCleanup(running.wait)
-        self.addCleanup(running.kill)
+        out, running = self.followed()
         self.until(lambda: self.events_of(out.read_bytes()) == EVENTS[:3], out)
         with open(self.trace, "a", encoding="ascii") as trace:
             trace.write(timed(EVENTS[3:5]) + "up ")
@@ -81,6 +104,16 @@ class Following(unittest.TestCase):
         self.assertEqual(running.wait(20), 0)
         comments = b" ".join(out.read_bytes().split(b"\0"))
         self.assertIn(b"e3: for station 3", comments)
+
+    def followed(self):
+        """The capture of the trace, which is still written, and the tool that writes it."""
+        out = self.folder / "run.pcapng"
+        with open(out, "wb") as file:
+            running = subprocess.Popen([sys.executable, tools.TOP / "tools" / "capture", "out", self.trace, "--follow", "--mme",
+                                        self.program], stdout=file)
+        self.addCleanup(running.wait)
+        self.addCleanup(running.kill)
+        return out, running
 
     def until(self, holds, out):
         end = time.monotonic() + 60

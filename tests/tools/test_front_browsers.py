@@ -14,7 +14,7 @@ from tests.tools import tools
 from tests.tools.test_front_page import Served
 from tools.fronting import limits
 from tools.fronting.aside import Aside
-from tools.fronting.census import TOGETHER, Census
+from tools.fronting.census import TOGETHER, UNKNOWN, Census
 from tools.fronting.exchange import Exchange
 from tools.fronting.meters import Meters
 from tools.fronting.provisioning import Head
@@ -83,9 +83,13 @@ class Beside(Served):
 
 class Given:
     """What an MME is given."""
+    takes_further = False
 
     def __init__(self, loop, hear, say):
         self.text, self.size = b"", 0
+
+    def begin(self, head):
+        """It needs nothing of its head."""
 
     def give(self, octets):
         self.text += octets
@@ -183,6 +187,19 @@ class MadeUp(unittest.TestCase):
         self.wants("next")
         self.turn(5)
         self.assertEqual(self.told["next"], 1)
+
+    def test_begins(self):
+        """Of an MME that begins nothing is known, and it may have fewer phones; who waits is answered."""
+        self.wants("first")
+        self.turn(20)
+        self.wants("waits", seconds=0)
+        del self.front.head.imsis[TOGETHER:]
+        self.census.begin()
+        self.assertEqual((self.told["waits"], self.census.by_states(), self.census.of(0)), (1, {}, UNKNOWN))
+        self.asked.clear()
+        self.wants("later", end=TOGETHER)
+        self.turn(5)
+        self.assertEqual((self.told["later"], self.census.by_states()), (1, {"REGISTERED IDLE ACTIVE": TOGETHER}))
 
     def test_gives_way(self):
         """Where messages wait nobody is asked for, until the last question is a while ago; and never while the MME is held."""

@@ -1,15 +1,19 @@
 """What a front counts of phones: attaches by the MME's states, and the vectors that are left; and how its log is doing."""
 import collections
 import json
+import os
 import pathlib
 import signal
+import subprocess
+import sys
 import tempfile
 import types
 import unittest
 import unittest.mock
 
 from reference import lte as LTE, phones as PHONES
-from tests.tools.fronted import FRAME, IMSI, PROGRAM
+from tests.tools import tools
+from tests.tools.fronted import FRAME, IMSI, PATIENCE, PROGRAM
 from tests.tools.test_front_page import Served
 from tools.fronting.attaches import Attaches
 from tools.fronting.challenges import challenged
@@ -128,7 +132,7 @@ class Questions(unittest.TestCase):
                                          ask_after=unittest.mock.Mock())
         loop = types.SimpleNamespace(after=lambda seconds, act: act())
         head = types.SimpleNamespace(imsis=[IMSI], slots={IMSI: 0})
-        self.front = types.SimpleNamespace(exchange=exchange, loop=loop, head=head,
+        self.front = types.SimpleNamespace(exchange=exchange, loop=loop, head=head, note_attached=unittest.mock.Mock(),
                                            meters=types.SimpleNamespace(attaches=collections.Counter()))
         self.attaches = Attaches(self.front)
         phone = PHONES.Phone(PHONES.Trace(), 0, vectors(1))
@@ -139,6 +143,7 @@ class Questions(unittest.TestCase):
 
     def told(self, states):
         self.attaches.note(types.SimpleNamespace(imsi=IMSI, states=states))
+        self.assertEqual(self.front.note_attached.call_count, self.front.meters.attaches["completed"])
         return self.front.meters.attaches["completed"]
 
     def test_flood(self):
@@ -212,6 +217,23 @@ class Vectors(unittest.TestCase):
             stock.note(0, vector.rand)
         self.assertEqual((self.alarms, stock.few()), ([(0, 3), (0, 3)], 1))
 
+    def test_restored(self):
+        """After a snapshot, which has the RANDs of those that are left alone, it counts on; a challenge by one that was spent before
+        comes again and changes nothing."""
+        stock = self.stock(6, 6, 0)
+        rands = [[vector.rand for vector in made] for made in self.made]
+        stock.restore([2, 4, 0], [b"".join(rands[0][2:]), b"".join(rands[1][4:]), b""])
+        self.assertEqual([stock.unspent(slot) for slot in range(3)], [rands[0][2:], rands[1][4:], []])
+        self.assertEqual((stock.by_left(), stock.few(), stock.least()), ({"0": 1, "1": 0, "2": 1, "3": 0, "4+": 1}, 2, 0))
+        self.assertEqual((stock.low, [stock.most_unspent(slot) for slot in range(3)]), ({1}, [5, 3, 0]))
+        for rand, left in ((rands[0][1], 4), (rands[0][0], 4), (rands[0][2], 3), (rands[0][2], 3), (rands[0][5], 0)):
+            stock.note(0, rand)
+            self.assertEqual((stock.left(0), stock.spent[0] + stock.left(0)), (left, 6))
+        self.assertEqual(([stock.place_of(0, rand) is None for rand in rands[0][:3]], self.alarms), ([True, True, False], [(0, 3)]))
+        [more] = vectors(1, "more ")
+        stock.lengthen(Head(self.head.lines + [more.words("001010000000001")]))
+        self.assertEqual((stock.unspent(0), stock.rands_left(1)), ([more.rand], b"".join(rands[1][4:])))
+
 
 class Told(Served):
     def begun(self, count, *words, **others):
@@ -223,6 +245,16 @@ class Told(Served):
         program.chmod(0o755)
         return self.running(*words, head=head + "".join(vector.words(IMSI) + "\n" for vector in self.made),
                             program=program, **others)
+
+    def test_a_reader_that_has_gone(self):
+        """`ask` ends without a word where nobody reads what it prints any more."""
+        running, (reading, writing) = self.begun(5), os.pipe()
+        os.close(reading)
+        for word in ("phones", "counters", "health"):
+            done = subprocess.run([sys.executable, tools.TOP / "tools" / "front", "ask", running.control, word], stdout=writing,
+                                  stderr=subprocess.PIPE, check=False, timeout=PATIENCE)
+            self.assertEqual((done.returncode, done.stderr), (0, b""), word)
+        os.close(writing)
 
     def test_vectors(self):
         """Left in `ask phones`, counters, metrics and the page; an alarm once; and the same after the run was resumed."""

@@ -26,6 +26,7 @@ from tests.tools.test_front_syncing import DOWN, MARK, Notes, OTHER_DOWN, Receiv
 from tools import versions
 from tools.fronting import etcd, exchange, limits, room, stored
 from tools.fronting.faults import LOG_FAILS, NOT_YET, SILENT, WRONG, Failed
+from tools.fronting.front import OF_PROGRAM
 from tools.fronting.keys import Whole
 from tools.fronting.loop import Loop
 from tools.fronting.meters import Meters
@@ -168,7 +169,8 @@ class Leader:
         test.addCleanup(self.loop.close)
         self.notes = Notes(pathlib.Path(test.enterContext(tempfile.TemporaryDirectory())) / "notes")
         self.exchange = exchange.Exchange(self.loop, types.SimpleNamespace(say=lambda *words, **fields: None), Meters(), self.notes)
-        self.exchange.program, self.exchange.mark = types.SimpleNamespace(give=self.given.append, size=0), b"data 9\n"
+        self.exchange.program, self.exchange.mark = types.SimpleNamespace(
+            give=self.given.append, size=0, takes_further=False), b"data 9\n"
         self.exchange.receivers[b"0"] = Receiver(self.sent)
         self.head = Head(HEAD.splitlines())
         self.scheme, self.etcd = stored.Scheme(self.head.mme), etcd.Etcd(self.loop, etcd.access_of(urls.split(",")))
@@ -544,15 +546,17 @@ class Fronts(unittest.TestCase):
         self.assertEqual(standby.remembers(), sum(turn.decode().count("in 0 f6\n") for turn in self.members.turns()))
 
     def test_given(self):
-        """What is given is a turn too: the standby has it, and so has one that begins later, whose file may have it or not."""
-        leader, standby = Stored(self, self.members), StandingBy(self, self.members)
+        """What a front with a program once gave stands beside the turns: a standby begins with it, whose file may have it or not."""
+        leader = Stored(self, self.members)
         self.assertEqual(leader.station().says(REMEMBERED), REMEMBERED)
         more = leader.folder / "more"
-        more.write_text("# a comment\n" + OTHER_SUB)
-        self.assertEqual(leader.asks("give", more), "given 1 subscriber, 0 vectors\n")
+        more.write_text(OTHER_SUB)
+        self.assertEqual(leader.asks("give", more), "fault %s\n" % OF_PROGRAM)
+        key = "/soizkadur/001.01.8001.01/given/%016x"
+        self.members.ask("/v3/kv/put", {"key": b64((key % 1).encode()), "value": b64(OTHER_SUB.encode())})
+        standby = StandingBy(self, self.members)
         standby.until(lambda: "001010000000002" in standby.asks("phones"))
         standby.follows_all()
-        self.assertEqual(self.members.values("given"), {max(self.members.values("given")): OTHER_SUB.encode()})
         later = StandingBy(self, self.members, head=HEAD + OTHER_SUB)
         leader.process.kill()
         standby.until(lambda: standby.store()["leads"] or later.store()["leads"])
@@ -561,17 +565,9 @@ class Fronts(unittest.TestCase):
         self.assertIn("state 001010000000002 HEARD-1", leads.asks("show", "001010000000002"))
 
     def test_given_by_the_file(self):
-        """Lines that the subscribers' file has beyond the log's are given once its front leads."""
+        """Lines that the subscribers' file has beyond the log's are refused, since a program can't be given them."""
         self.assertEqual(Stored(self, self.members).stop()[0], 0)
-        more = "".join(OTHER_SUB.replace("2", str(number)) for number in range(2, 6))
-        again = Stored(self, self.members, head=HEAD + more, front=(*HURRIED, "brief"))
-        again.until(lambda: "001010000000005" in again.asks("phones"))
-        self.assertEqual(b"".join(self.members.values("given").values()).decode(), more)
-        self.assertEqual(len(self.members.values("given")), 2)
-        again.process.kill()
-        third = Stored(self, self.members, head=HEAD + more)
-        self.assertIn("001010000000005", third.asks("phones"))
-        self.assertEqual(len(self.members.values("given")), 2)
+        self.assertIn("has lines that the store's log lacks, and a program takes none", self.refused(head=HEAD + OTHER_SUB))
 
     def refused(self, *words, head=HEAD, log=None):
         """What a front says that ends with status 2."""

@@ -1,6 +1,7 @@
 """tools/front: nothing that a phone or the MME said counts twice, whatever ended a run and however the next one begins. A log that
 was given up isn't gone on after, no vector is used twice, a log is of one front at a time, what changes nothing isn't kept as what
 counts, and files that are damaged are told in words."""
+import hashlib
 import itertools
 import os
 import pathlib
@@ -11,7 +12,7 @@ import tempfile
 import unittest
 
 from tests.tools.fronted import HEAD, IMSI, PROGRAM, REMEMBERED, STAND_IN, Running, events_of, said
-from tests.tools.test_front_log import LTE, PHONES, Talk, give, whole
+from tests.tools.test_front_log import LTE, PHONES, Talk, whole
 from tools import runs, s1ap
 from tools.fronting import associations, challenges, journal, locking, provisioning, resuming, segments, used
 from tools.fronting.faults import Failed
@@ -184,8 +185,6 @@ class Vectors(Phones):
                 self.assertIn("%s left out, used before" % ("1 vector is" if place == 1 else "%d vectors are" % place),
                               running.told.decode())
                 self.check_replayed_attach(running, attach, place)
-                told = give(running, self.phone.vectors[0].words(self.phone.imsi) + "\n")
-                self.assertIn("fault line 1: its vector was used already", told)
                 self.assertEqual(running.stop()[0], 0)
                 self.assertNotIn(self.phone.vectors[place - 1].rand.hex(), running.log.read_text().partition("# segment")[0])
                 self.assertEqual(len(rands_of(running)), place + 1)
@@ -204,6 +203,23 @@ class Vectors(Phones):
         self.assertEqual(running.stop()[0], 0)
         self.assertEqual(len(rands_of(running)), 1)
         path.unlink()
+        running = self.begin("--keep", "1")
+        self.assertIn("log.used is lost: all vectors of the log count as used", running.told.decode())
+        self.assertEqual(rands_of(running), [(self.phone.imsi, vector.rand.hex()) for vector in self.phone.vectors])
+        self.assertEqual([octets for octets in self.answers_to(attach)
+                          if challenges.challenged(octets) or octets[:2] == CONTEXT_REQUEST], [])
+        self.assertEqual(running.stop()[0], 0)
+
+    def test_without_the_file_and_the_beginning(self):
+        """Where LOG.used is lost and no segment has the head that the log began with, all vectors of the subscribers' file count as
+        used."""
+        running = self.begin()
+        attach = self.attaches()
+        self.assertEqual(running.stop()[0], 0)
+        for name in ("log", "log.counts"):
+            text = (self.folder / name).read_text()
+            (self.folder / name).write_text(text[text.index("# segment 1, "):].replace("# segment 1, ", "# segment 2, ", 1))
+        (self.folder / "log.used").unlink()
         running = self.begin("--keep", "1")
         self.assertIn("log.used is lost: all vectors of the log count as used", running.told.decode())
         self.assertEqual(rands_of(running), [(self.phone.imsi, vector.rand.hex()) for vector in self.phone.vectors])
@@ -353,6 +369,26 @@ class UsedFile(unittest.TestCase):
         self.assertEqual(self.path.read_text(), "".join("%s %s\n" % (IMSI, "%02x" % number * 16) for number in (1, 2)))
         self.assertEqual(self.path.stat().st_mode & 0o777, 0o600)
         self.assertEqual(self.made().known, made.known)
+
+    def test_first(self):
+        """What it told of itself before holds while vectors are added, and after it was read or written again; of another file, or of
+        one that lacks some, it doesn't."""
+        made = self.made()
+        told = [made.told()]
+        for number in (2, 1, 3):
+            made.note(IMSI, bytes([number]) * 16)
+            made.write()
+            told.append(made.told())
+        lines = self.path.read_text().splitlines(keepends=True)
+        self.assertEqual(told[3], {"vectors": 3, "digest": hashlib.sha256("".join(lines).encode()).hexdigest()})
+        self.path.unlink()
+        self.assertTrue(made.look_after())
+        for one in (made, self.made()):
+            self.assertEqual([one.begins_with(each) for each in told], [True] * 4)
+        for text, wanted in (("".join(lines[:2]), [True, True, True, False]), (lines[1] + lines[0] + lines[2], [True] + [False] * 3),
+                             ("", [True, False, False, False])):
+            self.path.write_text(text)
+            self.assertEqual([self.made().begins_with(each) for each in told], wanted)
 
     def test_damage(self):
         """A last line that isn't whole is cut; one that is damaged elsewhere is told by its number."""

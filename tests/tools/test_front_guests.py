@@ -124,9 +124,9 @@ class ControlSocket(Turned):
         self.turn(1.5 * SECONDS)
         self.assertEqual([has_ended(one) for one in guests], [True] * 3)
         self.assertTrue(has_ended(self.guest(b"x" * (limits.LONGEST_ASKED + 1))))
-        told = self.guest(b"nothing\ngive %d\n" % (limits.LONGEST_GIVEN + 1)).recv(1000).decode().splitlines()
+        told = self.guest(b"nothing\ngive %d\n" % (limits.LONGEST_ADDED + 1)).recv(1000).decode().splitlines()
         self.assertEqual(told, ["fault no line begins with 'nothing'",
-                                "fault give has the number of octets that follow, up to %d" % limits.LONGEST_GIVEN])
+                                "fault give has the number of octets that follow, up to %d" % limits.LONGEST_ADDED])
 
     def test_slow_answers(self):
         """Who waits for an answer isn't sent away meanwhile, and has its time again after it."""

@@ -12,7 +12,7 @@ import time
 import unittest
 
 from tests.tools import tools
-from tests.tools.fronted import HEAD, IMSI, PROGRAM, Running, events_of, said
+from tests.tools.fronted import HEAD, IMSI, LIBRARY, PROGRAM, Running, events_of, said
 from tests.tools.test_front_log import LTE, PHONES, Talk, give, whole
 
 RUNS = importlib.import_module("tools.runs")
@@ -137,8 +137,9 @@ class Lives:
         self.attaches_protected()
         self.settle()
         running.process.send_signal(signal.SIGHUP)
-        self.test.assertEqual(give(running, self.given), "given 0 subscribers, 2 vectors\n")
-        self.head += self.given
+        if self.program is LIBRARY:
+            self.test.assertEqual(give(running, self.given), "given 0 subscribers, 2 vectors\n")
+        self.head += self.given  # which a program takes at the next start
         self.first.vectors += made(self.given)
         self.ends((self.first, self.second), running)
         running = self.begin("--resume")
@@ -281,7 +282,12 @@ class Rows(unittest.TestCase):
                 self.assertEqual(filled(others, self.log), (2, "front: %s\n" % told))
         os.replace(self.log, self.folder / "log.segment.000002")
         self.log.write_text("# segment 3, begun now, without keys\n")
-        self.assertEqual(filled(row, self.log), (2, "front: %s isn't whole: its earlier segments are 2\n" % self.log))
+        self.assertEqual(filled(row, self.log), (2, "front: %s isn't whole: its segments are 2, 3\n" % self.log))
+        os.unlink(self.folder / "log.segment.000002")
+        self.assertEqual(filled(row, self.log), (2, "front: %s isn't whole: its segments are 3\n" % self.log))
+        (self.folder / "log.snapshot.000001").touch()
+        self.assertEqual(filled(row, self.log), (
+            2, "front: %s isn't whole: its segments are 3: `tools/front play` plays it from a snapshot on\n" % self.log))
 
     def test_crashes(self):
         """What a crash left of a message is of no other."""
@@ -334,6 +340,15 @@ class Resuming(unittest.TestCase):
         again = Running(self, "--resume", *NO_KEYS, head=HEAD + VECTOR, folder=running.folder)
         self.assertIn(b"goes on", again.told)
 
+    def test_longer_file(self):
+        """A vector that the file has more at the next start stands in the log's head without its keys."""
+        ended, other = self.ended(*NO_KEYS), VECTOR.replace("a1", "a7")
+        again = Running(self, "--resume", *NO_KEYS, head=HEAD + VECTOR + other, folder=ended.folder)
+        self.assertIn(b"given 0 subscribers, 1 vector: they stand in the head of", again.said())
+        for text in (whole(again), whole(again, ".counts")):
+            self.assertIn(KEYS.without_keys(other.rstrip()) + "\n# segment 1,", text)
+            self.assertNotIn("d4" * 4, text)
+
     def test_without_the_vectors(self):
         """It isn't resumed with a file that lacks them, and not in another form."""
         for before, words, head, told in (
@@ -348,21 +363,24 @@ class Resuming(unittest.TestCase):
                 self.assertIn(told, again.told.decode())
 
     def test_its_head_as_subscribers(self):
-        """What a log without keys begins with provisions nobody, at the start or while the front runs."""
-        vector = KEYS.without_keys(VECTOR) + "\n"
+        """What a log without keys begins with provisions nobody, at the start or later."""
+        vector = KEYS.without_keys(VECTOR.replace("a1", "a7")) + "\n"
         status, told = self.refused(HEAD + vector)
         self.assertEqual(status, 2)
         self.assertIn("subscribers: a vector has no keys: they were left out of a log", told)
-        running = Running(self)
-        self.assertEqual(give(running, vector), "fault line 1: it has no keys: they were left out of a log\n")
+        ended = self.ended()
+        status, told = Running(self, "--resume", head=HEAD + VECTOR + vector, folder=ended.folder).ended()
+        self.assertEqual((status, "a vector has no keys: they were left out of a log" in told), (2, True), told)
 
     def test_two_of_one_challenge(self):
-        """Vectors that such a log couldn't tell apart aren't taken with it, at the start or while the front runs."""
-        other = VECTOR.replace("d4" * 32, "d5" * 32)
+        """Vectors that such a log couldn't tell apart aren't taken, at the start or later."""
+        other, why = VECTOR.replace("d4" * 32, "d5" * 32), PROVISIONING.SAME_RAND % IMSI
         status, told = self.refused(HEAD + VECTOR + other, *NO_KEYS)
-        self.assertEqual((status, told), (2, "front: %s\n" % ONE_CHALLENGE))
-        running = Running(self, *NO_KEYS, head=HEAD + VECTOR)
-        self.assertEqual(give(running, other), "fault %s\n" % ONE_CHALLENGE)
+        self.assertEqual(status, 2)
+        self.assertIn("subscribers: line 4: %s\n" % why, told)
+        ended = self.ended(*NO_KEYS)
+        status, told = Running(self, "--resume", *NO_KEYS, head=HEAD + VECTOR + other, folder=ended.folder).ended()
+        self.assertEqual((status, "subscribers: line 4: %s\n" % why in told), (2, True), told)
 
 
 if __name__ == "__main__":

@@ -12,8 +12,9 @@ import unittest
 
 from reference import lte as LTE, phones as PHONES
 from tests.tools import tools
-from tests.tools.fronted import HANGS, HEAD, IMSI, OF_SLOT, PROGRAM, REMEMBERED, Connected, Running, events_of
+from tests.tools.fronted import HANGS, HEAD, IMSI, PROGRAM, REMEMBERED, Connected, Running, events_of
 from tools.fronting import limits
+from tools.fronting.front import OF_PROGRAM
 from tools.fronting.segments import older_segments
 
 ERROR = bytes.fromhex("000f40070000010002400110")  # an ERROR INDICATION, which the stand-in sends back
@@ -131,7 +132,6 @@ class FullDisk(unittest.TestCase):
         for number in range(5):
             self.assertEqual(station.says(bytes([number]) * 3000), bytes([number]) * 3000)
         running.until(lambda: b"the run goes on without a log" in running.said())
-        self.assertIn("fault the log isn't whole since the start", give(running, OTHER_SUB))
         self.assertEqual(running.asks("phones").splitlines()[-1], "no log")
         self.assertEqual(running.stop()[0], 0)
 
@@ -252,50 +252,66 @@ def give(running, text):
 
 
 class Giving(unittest.TestCase):
-    def test_given(self):
-        """A subscriber that comes while the front runs; the stations notice nothing, and the log plays with the longer head."""
+    """A front with a program, which takes no lines while it runs."""
+
+    def test_refused(self):
+        """It says so, and what helps; nothing changes, and the station notices nothing."""
         running = Running(self)
         station = running.station()
         self.assertEqual(station.says(REMEMBERED), REMEMBERED)
-        before = running.asks("counters")
-        self.assertEqual(give(running, OTHER_SUB), "given 1 subscriber, 0 vectors\n")
-        self.assertEqual(running.asks("show", "001010000000002"), "state 001010000000002 HEARD-1 IDLE INACTIVE\n")
+        self.assertEqual(give(running, OTHER_SUB), "fault %s\n" % OF_PROGRAM)
         self.assertEqual(station.says(b"still"), b"still")
-        self.assertIn("given: 0", before)
-        self.assertIn("given: 1", running.asks("counters"))
+        self.assertIn("given: 0", running.asks("counters"))
+        self.assertEqual(running.asks("data", "001010000000002"), "refused 5: nobody has this IMSI\n")
         self.assertEqual(running.stop()[0], 0)
         for end in ("", ".counts"):
-            text = whole(running, end)
-            self.assertTrue(text.startswith(HEAD + OTHER_SUB))
-            self.assertEqual(events_of(text), ["up 0", "in 0 f6", "show 001010000000002", "in 0 7374696c6c", "lost 0"])
+            self.assertEqual(whole(running, end)[:len(HEAD) + 10], HEAD + "# segment ")
 
-    def test_what_was_refused_before(self):
-        """Of whom something else was said than is said now is brought to a known state, and nobody else."""
+    def test_longer_file(self):
+        """A subscriber that the file has more at the next start: what counts is played with the longer head, which both series have
+        from then on, over several segments too."""
         running = Running(self)
         station = running.station()
-        self.assertEqual(station.says(OF_SLOT + b"\x02"), b"\0\x11")
-        self.assertEqual(station.says(OF_SLOT + b"\x00"), b"\0\x11")
-        third = "sub 001010000000003 0a000003 0a000064 00000003\n"
-        told = give(running, OTHER_SUB + third)
-        self.assertRegex(told, r"^refused: line \d+ of what counts, in 0 f702, would be answered otherwise: out e0 0 0011$")
-        self.assertEqual(station.says(b"still"), b"still")
-        self.assertNotIn("cancel", running.log.read_text())
-        self.assertEqual(running.log.read_text()[:len(HEAD) + 10], HEAD + "# segment ")
-        self.assertEqual(running.asks("data", "001010000000002"), "refused 5: nobody has this IMSI\n")
+        self.assertEqual(station.says(REMEMBERED), REMEMBERED)
+        for _ in range(2):
+            count = len(older_segments(running.log))
+            running.process.send_signal(signal.SIGHUP)
+            running.until(lambda count=count: len(older_segments(running.log)) > count)
+        self.assertEqual(station.says(REMEMBERED), REMEMBERED)
+        self.assertEqual(running.stop()[0], 0)
+        for times, told in ((1, True), (2, False)):
+            running = Running(self, "--resume", head=HEAD + OTHER_SUB, folder=running.folder)
+            self.assertEqual(b"given 1 subscriber, 0 vectors: they stand in the head of" in running.said(), told)
+            self.assertEqual(running.asks("show", "001010000000002"), "state 001010000000002 HEARD-2 IDLE INACTIVE\n")
+            self.assertEqual(running.station().says(b"still"), b"still")
+            self.assertEqual(running.stop()[0], 0)
+            for end in ("", ".counts"):
+                text = whole(running, end)
+                self.assertTrue(text.startswith(HEAD + OTHER_SUB + "# segment 1,"), text)
+                self.assertEqual(events_of(text).count("in 0 7374696c6c"), times)
+
+    def test_longer_file_that_is_wrong(self):
+        """Lines that can't be taken end it with words, and the log stays as it is."""
+        running = Running(self)
+        self.assertEqual(running.station().says(REMEMBERED), REMEMBERED)
+        self.assertEqual(running.stop()[0], 0)
+        before = [whole(running, end) for end in ("", ".counts")]
+        for more, why in ((HEAD.splitlines()[1] + "\n", "line 1: it stands already"), (OTHER_SUB * 2, "line 2: it stands already"),
+                          ("vec 001010000000007 %s %s %s %s\n" % ("00" * 16, "00" * 16, "00" * 8, "00" * 32),
+                           "line 1: 001010000000007 has no line sub")):
+            status, told = Running(self, "--resume", head=HEAD + more, folder=running.folder).ended()
+            self.assertEqual((status, "can't be given: %s\n" % why in told), (2, True), told)
+            self.assertEqual([whole(running, end) for end in ("", ".counts")], before)
 
     def test_faults(self):
-        """Lines that aren't further subscribers or vectors are refused with their number, and nothing changes."""
+        """A number of octets that can't be."""
         running = Running(self)
-        for text, told in (("up 0\n", "fault line 1: no line begins with 'up'\n"),
-                           (HEAD, "fault line 1: no line begins with 'mme'\n"),
-                           (OTHER_SUB + OTHER_SUB, "fault line 2: it stands already\n")):
-            self.assertEqual(give(running, text), told)
         with socket.socket(socket.AF_UNIX) as asking:
             asking.connect(str(running.control))
             asking.sendall(b"give 99999999999\ngive x\n")
             answers = asking.makefile()
             for _ in range(2):
-                self.assertEqual(answers.readline(), "fault give has the number of octets that follow, up to 4194304\n")
+                self.assertEqual(answers.readline(), "fault give has the number of octets that follow, up to 67108864\n")
         self.assertEqual(running.stop()[0], 0)
 
 
@@ -319,7 +335,7 @@ class Talk:
 
 @unittest.skipUnless(PROGRAM.exists(), "the program isn't built (./mme --prove)")
 class GivenToPhones(unittest.TestCase):
-    """What is given while the program itself runs, and phones that needed it."""
+    """What the program itself is given at its next start, and phones that needed it."""
 
     program = PROGRAM  # of the front
 
@@ -341,6 +357,23 @@ class GivenToPhones(unittest.TestCase):
         """What is provisioned of a phone."""
         return [line for line in self.trace.text().splitlines() if line.split(" ")[1] == phone.imsi]
 
+    def restarted(self, running, given):
+        """The front that goes on after one, with these lines at the end of its file, and the station's talk with it."""
+        self.assertEqual(running.stop()[0], 0)
+        lines = self.trace.text().splitlines()
+        head = [line for line in lines if line.startswith(("mme ", "sub ", "vec ")) and line not in given] + given
+        again = Running(self, "--resume", head="\n".join(head) + "\n", program=self.program, folder=running.folder)
+        self.assertIn(b"they stand in the head of", again.said())
+        talk = Talk(self, self.trace, again)
+        self.trace.set_up(self.station, connects=False)
+        talk.settle()
+        return again, talk
+
+    def is_served(self, phone, number):
+        """A phone comes for service, and stays connected."""
+        phone.asks_for_service(self.station, number)
+        phone.context_is_set_up()
+
     def check_end(self, running):
         """Both phones are registered, and the log plays."""
         for phone in self.phones:
@@ -358,50 +391,40 @@ class GivenToPhones(unittest.TestCase):
         spent.attaches(self.station, 1)
         spent.is_released()
         talk.settle()
-        self.assertEqual(give(running, withheld[0] + "\n"), "given 0 subscribers, 1 vector\n")
+        other.is_gone()
+        running, talk = self.restarted(running, withheld)
         self.assertIn("%s %s vectors_left=1\n" % (spent.imsi, PHONES.IDLE), running.asks("phones"))
         spent.attaches(self.station, 9)
+        self.is_served(other, 10)
         talk.settle()
         self.check_end(running)
-        self.assertNotIn("cancel", running.log.read_text())
 
     def test_a_phone_that_was_refused(self):
-        """A phone that was refused as nobody's attaches after its subscriber was given, which `cancel` brought to a known state;
-        one that is registered notices nothing."""
+        """A phone that was refused as nobody's attaches after its subscriber was given, and one that is registered is served. With
+        the longer head the refused request was challenged, by the first vector, which nobody heard of."""
         other, late = self.phones
         withheld = self.lines_of(late)
         running, talk = self.running(withheld)
         other.attaches(self.station, 1)
+        self.is_nobodys(late)
+        talk.settle()
+        other.is_gone()
+        running, talk = self.restarted(running, withheld)
+        self.assertIn("%s DEREGISTERED IDLE INACTIVE vectors_left=1\n" % late.imsi, running.asks("phones"))
+        late.place = late.associations = 1
+        late.attaches(self.station, 3)
+        self.is_served(other, 4)
+        talk.settle()
+        self.check_end(running)
+
+    def is_nobodys(self, phone):
+        """A phone asks to attach whose subscriber isn't known."""
         esm = LTE.pdn_connectivity_request(1, 1, False)
-        request = LTE.attach_request(1, LTE.imsi_identity(late.imsi), late.capability, esm)
+        request = LTE.attach_request(1, LTE.imsi_identity(phone.imsi), phone.capability, esm)
         self.trace.hear(self.station, LTE.initial_ue_message(self.trace.network, self.station, 2, request))
         stranger = (1 << 31) + 2
         self.trace.owe("x0.2", self.station, LTE.downlink_nas(stranger, 2, b"\x07\x44\x08"))
         self.trace.owe("x0.2", self.station, LTE.release_command(stranger, 2, LTE.NORMAL_RELEASE))
-        talk.settle()
-        self.assertEqual(give(running, "\n".join(withheld) + "\n"), "given 1 subscriber, 2 vectors\n")
-        # (with the longer head the request was challenged, by the first vector)
-        self.trace.owe("s1", self.station, LTE.release_command(LTE.id_of_slot(1, 1), 2, LTE.DETACHED))
-        talk.settle()
-        self.assertIn("%s DEREGISTERED IDLE INACTIVE vectors_left=1\n" % late.imsi, running.asks("phones"))
-        late.place = late.associations = 1
-        late.attaches(self.station, 3)
-        talk.settle()
-        self.check_end(running)
-        self.check_cancelled(running, late.imsi)
-
-    def check_cancelled(self, running, imsi):
-        """The log has one `cancel`, below a comment that says whose it is; and the reasons say that nobody withdrew anything."""
-        for end in ("", ".counts"):
-            lines = whole(running, end).splitlines()
-            [place] = [place for place, line in enumerate(lines) if line.startswith("cancel")]
-            self.assertEqual(lines[place], "cancel " + imsi)
-            self.assertTrue(lines[place - 1].startswith("# begun anew: the front was given lines for %s, " % imsi), lines[place - 1])
-        told = tools.ran("explain", "--mme", PROGRAM, running.log)
-        self.assertEqual(told.returncode, 0, told)
-        [line] = [line for line in told.stdout.decode().splitlines() if "begins the subscriber anew" in line]
-        self.assertIn("the front begins the subscriber anew", line)
-        self.assertNotIn("is withdrawn", told.stdout.decode())
 
 
 class Hanging(unittest.TestCase):

@@ -10,6 +10,7 @@ import urllib.error
 import urllib.request
 import xml.etree.ElementTree
 
+from bench.etcds import free_port
 from reference import lte, phones as PHONES
 from tests.tools.fronted import HEAD, IMSI, OF_SLOT, PROGRAM, Running
 from tools.eps.reasons import SCTP, Why
@@ -25,11 +26,6 @@ from tools.fronting.teller import Reason
 LINE = re.compile(r'[a-z_]+(\{[a-z]+="([^"\\\n]|\\["\\n])*"(,[a-z]+="([^"\\\n]|\\["\\n])*")*\})? -?[0-9.e+-]+$')
 SETUP = bytes.fromhex("201100170000020069000b000000f11000008001000100574001ff")  # S1 SETUP RESPONSE
 ERROR = bytes.fromhex("000f40080000010002400120")  # ERROR INDICATION
-
-
-def free_port():
-    with socket.create_server(("127.0.0.1", 0)) as listener:
-        return listener.getsockname()[1]
 
 
 class Served(unittest.TestCase):

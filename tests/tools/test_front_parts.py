@@ -10,13 +10,14 @@ import tempfile
 import time
 import types
 import unittest
+import unittest.mock
 
 import soizkadur
 from reference import lte as LTE, phones as PHONES
 from tests.tools import tools
 from tests.tools.fronted import HEAD, IMSI
 from tools import runs as RUNS
-from tools.fronting import crowd, giving, journal, limits, links, provisioning, resuming, sctp, segments, stations
+from tools.fronting import command, crowd, journal, limits, links, provisioning, resuming, sctp, segments, stations
 from tools.fronting.faults import Failed
 from tools.fronting.loop import Loop
 from tools.fronting.meters import Meters
@@ -336,14 +337,36 @@ class Echo:
     """An MME of the package: answers each line by itself, slowly at one that asks for it, and refuses what is a number."""
     is_open = True
 
-    def answers(self, line):
-        if line.isdigit():
-            raise soizkadur.Refused(int(line))
-        time.sleep(limits.LIBRARY_SECONDS if line == b"slow" else 0)
-        return [line.decode()] if line != b"quiet" else []
+    def __init__(self):
+        self.texts = []
+
+    def play_text(self, text):
+        self.texts.append(text)
+        told = b""
+        for number, line in enumerate(text.splitlines(), 1):
+            if line.isdigit():
+                raise soizkadur.Refused(int(line), number, answers=told)
+            time.sleep(limits.LIBRARY_SECONDS if line.startswith(b"slow") else 0)
+            told += line + b"\n" if line != b"quiet" else b""
+        return told
 
     def close(self):
         self.is_open = False
+
+
+class Chosen(unittest.TestCase):
+    """Which MME a front runs."""
+
+    def test_words(self):
+        """The library's where it is there, unless a program is named; else the program beside the tool."""
+        for is_there in (True, False):
+            found = {"return_value": soizkadur} if is_there else {"side_effect": Failed("there is no library", 2)}
+            for mme, library, chosen in ((None, False, (RUNS.SYSTEM, is_there)), (None, True, (RUNS.SYSTEM, True)),
+                                         ("x", False, ("x", False))):
+                given = types.SimpleNamespace(mme=mme, library=library)
+                with unittest.mock.patch.object(command, "library", **found):
+                    command.choose_mme(given)
+                self.assertEqual((given.mme, given.library), chosen)
 
 
 class InProcess(unittest.TestCase):
@@ -378,11 +401,28 @@ class InProcess(unittest.TestCase):
 
     def test_turns(self):
         """It plays for a while in each turn, so that others have theirs."""
-        self.mme.give(b"slow\n" * 3 + b"a\n")
+        slow = b"slow".ljust(limits.LIBRARY_OCTETS - 1, b"w") + b"\n"
+        self.mme.give(slow * 3 + b"a\n")
         self.turn(1)
         self.assertEqual(len(self.heard), 1)
         self.turn()
-        self.assertEqual(self.heard, [b"slow\n"] * 3 + [b"a\n"])
+        self.assertEqual(self.heard, [slow] * 3 + [b"a\n"])
+
+    def test_calls(self):
+        """A call of the library plays as many whole lines as it may, or one that is longer; what was given apart is played apart."""
+        most = limits.LIBRARY_OCTETS
+        few, line = b"a\n" * 3, b"b" * (most // 2 - 1) + b"\n"
+        for given, texts in (([few, few], [few, few]), ([line * 5], [line * 2, line * 2, line]),
+                             ([line + few + line], [line + few, line]), ([few + line * 4], [few + line, line * 2, line]),
+                             ([few + b"c" * most + b"\n" + few], [few, b"c" * most + b"\n", few]), ([b""], [])):
+            with self.subTest(given=[len(text) for text in given]):
+                self.setUp()
+                for text in given:
+                    self.mme.give(text)
+                self.assertEqual(self.mme.size, len(b"".join(given)))
+                self.turn()
+                self.assertEqual((self.mme.mme.texts, b"".join(self.heard)), (texts, b"".join(given)))
+                self.assertEqual((self.mme.size, self.mme.played), (0, b"".join(given).count(b"\n")))
 
     def test_taken(self):
         """Whoever waits for it to take what it was given is told, though nothing of that is answered."""
@@ -400,7 +440,8 @@ class InProcess(unittest.TestCase):
                                       (soizkadur.Refusal.LOST, "out of memory", 4)):
             with self.subTest(refusal=refusal):
                 self.setUp()
-                self.mme.give(b"a\nb\n%d\nc\n" % refusal)
+                self.mme.give(b"a\n")
+                self.mme.give(b"b\n%d\nc\n" % refusal)
                 self.turn()
                 self.assertEqual((b"".join(self.heard), self.said, self.ends), (b"a\nb\n", [("mme", "mme: " + told)], [status]))
 
@@ -415,51 +456,10 @@ class InProcess(unittest.TestCase):
             self.assertEqual((self.heard, self.ends, self.mme.status), ([], ends, -9))
 
 
-class Comparing(unittest.TestCase):
-    """What two MMEs answer, one with a longer head; `refused 5` stands after the answers to each line."""
-
-    def compared(self, old, new, slots, piece=7):
-        made = giving.Comparison(set(slots), slots)
-        old, new = (b"".join(line + b"\n" for line in lines) for lines in (old, new))
-        for at in range(0, max(len(old), len(new)), piece):
-            made.old += old[at:at + piece]
-            made.new += new[at:at + piece]
-            made.go_on()
-        return made.lines, made.differing
-
-    def test_same(self):
-        lines = [b"out e0 0 aa", b"refused 5", b"refused 5", b"state 001010000000001 A B C", b"refused 5"]
-        for piece in (1, 7, 1000):
-            self.assertEqual(self.compared(lines, lines, {IMSI: 0}, piece), (3, set()))
-
-    def test_changed_subscribers(self):
-        """What is otherwise for those whose provisioning changes is allowed, and known."""
-        for piece in (1, 7, 1000):
-            self.assertEqual(self.compared([b"out s1 0 aa", b"refused 5", b"out s0 0 bb", b"refused 5"],
-                                           [b"out s1 0 aa", b"out s1 0 ab", b"refused 5", b"out s0 0 bb", b"refused 5"],
-                                           {"001010000000002": 1}, piece), (2, {"001010000000002"}))
-
-    def test_others(self):
-        """What is otherwise for anybody else isn't."""
-        for old, new in (([b"out s0 0 aa", b"refused 5"], [b"out s0 0 ab", b"refused 5"]),
-                         ([b"out s0 0 aa", b"refused 5"], [b"refused 5"]),
-                         ([b"state 001010000000001 A B C", b"refused 5"], [b"state 001010000000001 A B D", b"refused 5"])):
-            with self.assertRaises(giving.Differs):
-                self.compared(old, new, {"001010000000002": 1})
-
-    def test_stranger_who_is_a_subscriber_now(self):
-        """What a phone was answered as a stranger, at this station and with this eNB UE S1AP ID, isn't compared."""
-        answer = LTE.downlink_nas(0x10001, 77, b"\x07\x44\x08").hex().encode()
-        self.assertEqual(self.compared([b"out x0.77 0 " + answer, b"refused 5"], [b"out s1 0 " + answer, b"refused 5"],
-                                       {"001010000000002": 1}), (1, {"001010000000002"}))
-        with self.assertRaises(giving.Differs):
-            self.compared([b"out x0.78 0 " + answer, b"refused 5"], [b"out s1 0 " + answer, b"refused 5"], {"001010000000002": 1})
-
-
 class Resumed(unittest.TestCase):
     def test_comments_of_a_line(self):
         """What says why the front begins a subscriber anew stays with its line; times and numbers of segments don't come again."""
-        anew = giving.ANEW % IMSI + "\ncancel " + IMSI
+        anew = RUNS.BEGUN_ANEW + "the front was given lines for %s\ncancel %s" % (IMSI, IMSI)
         entries = resuming.entries_of("# time 1\n%s\n# segment 2, begun\n# resumed\nup 0\n" % anew)
         self.assertEqual(entries, [anew, "# resumed", "up 0"])
 
@@ -471,8 +471,6 @@ class Provisioning(unittest.TestCase):
         sub, vector = "sub 001010000000002 0a000002 0a000064 00000002", "vec %s aa bb cc dd" % IMSI
         longer = head.with_more(["# more", sub, vector, vector.replace(IMSI, "001010000000002")])
         self.assertEqual((longer.imsis, longer.slots["001010000000002"]), ([IMSI, "001010000000002"], 1))
-        self.assertTrue(head.is_beginning_of(longer))
-        self.assertFalse(longer.is_beginning_of(head))
         for lines, why in ((["up 0"], "line 1: no line begins with 'up'"), ([sub, sub], "line 2: it stands already"),
                            ([sub.replace("0a000002", "0a000003"), sub], "line 2: 001010000000002 has its line sub"),
                            (["vec 001010000000003 aa bb cc dd"], "line 1: 001010000000003 has no line sub"),

@@ -13,8 +13,10 @@ PHONES, MOST_STEPS = 5, 8
 
 @unittest.skipUnless(PROGRAM.exists() and shutil.which("cc"), "the program isn't built (./mme --prove), or there is no C compiler")
 class PowerCuts(unittest.TestCase):
+    program, words = PROGRAM, ()  # of the front
+
     def field(self, seed, *words):
-        return Field(self, self.enterContext(tempfile.TemporaryDirectory()), PHONES, seed, words)
+        return Field(self, self.enterContext(tempfile.TemporaryDirectory()), PHONES, seed, (*self.words, *words), self.program)
 
     def test_freshness(self):
         """Over many power cuts no challenge, no NAS COUNT and no radio key comes twice, what was accepted isn't accepted again, and

@@ -10,11 +10,12 @@ import types
 import unittest
 import unittest.mock
 
-from tests.tools import tools
+from tests.tools import remembering, tools
 from tests.tools.fronted import HEAD, PROGRAM
 from tests.tools.test_front_page import PHONES, Spoken, lte
 from tools import runs, s1ap
 from tools.eps import story
+from tools.eps.remembered import Remembered
 from tools.fronting import limits, teller
 from tools.fronting.journal import Batch
 from tools.fronting.loop import Loop
@@ -44,7 +45,7 @@ class MadeUp(unittest.TestCase):
 
     def setUp(self):
         self.timers = []
-        self.exchange = types.SimpleNamespace(is_held=False, follow=None, journal=types.SimpleNamespace(lines_given=0))
+        self.exchange = types.SimpleNamespace(is_held=False, follow=None)
         self.aside = types.SimpleNamespace(is_quiet=True)
         self.front = types.SimpleNamespace(exchange=self.exchange, aside=self.aside, crowd=object(), loop=self,
                                            meters=types.SimpleNamespace(now=1.0))
@@ -91,6 +92,26 @@ class MadeUp(unittest.TestCase):
                 reasons += len(expected)
         self.assertGreater(reasons, 10)
 
+    def test_after_a_snapshot(self):
+        """From a snapshot on, reasons say of what lies before it that it does; there are none where that has too much, or can't be
+        read."""
+        trace, station = PHONES.Trace(), PHONES.Station(0)
+        phone = PHONES.Phone(trace, 0, [PHONES.Vector.made("reasons")])
+        trace.set_up(station)
+        phone.attaches(station, 1)
+        kept = remembering.Kept(phone, remembering.REGISTERED)
+        octets = remembering.snapshot(trace.network, 7, {0: 1}, [kept])
+        make = lambda: Remembered(octets).world()
+        for more, made, why_not in ((0, make, None), (1, make, teller.TOO_MANY), (0, lambda: Remembered(octets[:-1]), "unread")):
+            self.setUp()
+            self.teller.begin_with(made, limits.MOST_TOLD_OF, limits.MOST_TOLD_BY + more, "unread")
+            self.assertEqual(self.teller.why_not, why_not)
+            if why_not is None:
+                self.exchange.follow(batch_of(trace.lines[-1], 0))
+                self.turn()
+                self.assertEqual(self.texts(), [(1, "ATTACH COMPLETE is dropped (replayed): count 1 was accepted before the "
+                                                    "snapshot (TS 24.301 clause 4.4.3.2)")])
+
     def test_gives_way(self):
         """While messages wait, or the stations are held, or have not been let in yet, nothing is read."""
         self.teller.begin(Head(HEAD.splitlines()))
@@ -132,7 +153,7 @@ class MadeUp(unittest.TestCase):
 
         self.teller.begin(head(limits.MOST_TOLD_OF))
         self.assertIsNotNone(self.teller.world)
-        self.teller.lengthen(head(limits.MOST_TOLD_OF), head(limits.MOST_TOLD_OF + 1))
+        self.exchange.follow(batch_of(runs.FURTHER + "sub 001020000000000 0a000002 0a000064 00000002", 1))
         self.assertEqual(self.teller.why_not, teller.TOO_MANY)
         vectors = ["vec 001010000000000 " + PHONES.Vector.made("").words("").split(" ", 2)[2]] * limits.MOST_TOLD_BY
         for lines, is_there in ((head(limits.MOST_TOLD_OF + 1).lines, False), (head(1).lines + vectors, True),
@@ -165,7 +186,7 @@ class MadeUp(unittest.TestCase):
         self.assertLess(max(len(text) for _, text in self.texts()), limits.LONGEST_FACT + 200)
 
     def test_lines(self):
-        """The lines of the log are told as they are now, once the head has further ones; and as unknown where they are that."""
+        """The lines of the log are told, and as unknown where they are that."""
         trace = PHONES.Trace()
         phone, station = PHONES.Phone(trace, 0, [PHONES.Vector.made("reason")]), PHONES.Station(0)
         trace.provision([phone])
@@ -180,8 +201,6 @@ class MadeUp(unittest.TestCase):
         at = 1000 + len(trace.lines)
         text = "ATTACH COMPLETE is dropped (replayed): count 1 was accepted at line %s (TS 24.301 clause 4.4.3.2)"
         self.assertEqual([told for _, told in self.texts()], [text % at])
-        self.exchange.journal.lines_given = 7
-        self.assertEqual([told for _, told in self.texts()], [text % (at + 7)])
         self.setUp()
         self.teller.begin(head)
         self.teller.take_before("".join(line + "\n" for line in trace.lines).encode())
@@ -219,20 +238,6 @@ class Live(Spoken):
         explained = self.explained(read() if read else self.front.log.read_bytes())
         self.assertEqual(len(explained), count)
         self.front.until(lambda: all(reason in self.told() for reason in explained))
-
-    def test_given(self):
-        """Further subscribers move the lines of the log, and the reasons with them; theirs are told too."""
-        self.begin()
-        self.says(*self.phone.attach_steps(self.cell, 1), again=True)
-        self.check(1)
-        other = PHONES.Phone(self.trace, 1, [PHONES.Vector.made("given")])
-        lines = "sub %s %s %s %s\n%s\n" % (other.imsi, other.address.hex(), other.gateway.hex(), other.teid.hex(),
-                                         other.vectors[0].words(other.imsi))
-        (self.front.folder / "more").write_text(lines)
-        self.assertTrue(self.front.asks("give", self.front.folder / "more").startswith("given "))
-        self.check(1)
-        self.says(*other.attach_steps(self.cell, 2), again=True)
-        self.check(2)
 
     def test_without_keys(self):
         """Lines are those of the log where that has no keys too."""

@@ -101,7 +101,7 @@ class Turns(unittest.TestCase):
         self.notes = Notes(self.folder / "notes")
         self.addCleanup(os.close, self.notes.file)
         self.exchange = exchange.Exchange(self.loop, voice, Meters(), self.notes, self.full_disk)
-        self.exchange.program = types.SimpleNamespace(give=self.given.append, size=0)
+        self.exchange.program = types.SimpleNamespace(give=self.given.append, size=0, takes_further=False)
         self.exchange.mark = b"data 9\n"
         self.journal = journal.Journal.begun(self.log, provisioning.Head(HEAD.splitlines()), 1 << 20, 3)
         self.disk = self.syncer() if self.syncer else None
@@ -505,7 +505,8 @@ class Unsynced(Turns):
         """What stands beside a log that wasn't synced is on disk before it counts as synced, where it is taken up."""
         done = unittest.mock.Mock()
         settings = types.SimpleNamespace(sync="no", log=self.log)
-        begun = types.SimpleNamespace(exchange=done.exchange, used=done.used, voice=done.voice, loop=None, settings=settings)
+        begun = types.SimpleNamespace(exchange=done.exchange, used=done.used, voice=done.voice, saving=done.saving, loop=None,
+                                      settings=settings)
         front.Front.write_to(begun, done.journal)
         names = [name for name, _, _ in done.mock_calls]
         self.assertLess(names.index("used.sync"), names.index("journal.keep_by"))

@@ -400,9 +400,15 @@ class Following(unittest.TestCase):
         self.turn(front)
         front.head.imsis.append("9" * 15)
         front.head.subscribers.append("sub %s 0a2d0009 0a000064 00000009" % ("9" * 15))
+        later = Guest()
+        made.follow(later)
+        self.turn(front)
+        for each in (guest, later):
+            self.assertEqual(each.got.decode().splitlines()[2:], ["now"])
         made.lengthen()
         self.turn(front)
-        self.assertEqual(guest.got.decode().splitlines()[2:], ["now", front.head.subscribers[2]])
+        for each in (guest, later):
+            self.assertEqual(each.got.decode().splitlines()[2:], ["now", front.head.subscribers[2]])
 
     def test_who_does_not_read(self):
         """Is told no more than fits, and is cut off; another one hears all the same."""

@@ -110,6 +110,18 @@ class Sharing(unittest.TestCase):
         self.assertEqual([self.begun_beside(processes) for processes in range(5)],
                          [{"mme": 2, "mme_c": 2}, {"mme": 2, "mme_c": 1}, {"mme": 2}, {}, {}])
 
+    def test_what_a_chain_waits_for(self):
+        """What the next of a chain waits for begins by the chain's processors, where nothing of the chain can begin."""
+        crates = {"low": ((), 900), "beside": ((), 10), "other": ((), 20), "mme": (("low", "beside"), 50)}
+        with unittest.mock.patch.dict(CRATES, crates, clear=True):
+            sharing = lanes.Sharing(Machine(4).tasks(), 4, 64 * MEMORY)
+        self.assertNotIn(("beside", "proof"), sharing.chain)
+        sharing.left.remove(("low", "proof"))
+        sharing.given["low", "proof"] = True
+        sharing.left.remove(("other", "proof"))
+        sharing.running["other"] = ("other", "proof"), 2
+        self.assertIn((("beside", "proof"), 2), [*sharing.begun()])
+
     def test_no_more_than_processors(self):
         for processors in (4, 8):
             machine = Machine(processors)

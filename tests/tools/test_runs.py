@@ -283,7 +283,8 @@ class Reading(unittest.TestCase):
                                      ("a/log.segment.000002", 2, "a/log.segment.000001"), ("-", 2, "LOG.segment.000001")):
             with self.subTest(name=name, number=number), self.assertRaises(RUNS.Fault) as raised:
                 RUNS.read_trace(SEGMENTS.line_of(number) + b"# time 1\nup 0\n", name)
-            told = "%s: this is segment %d of a front's log, which goes on after %s: join them by `cat` in this order, it last"
+            told = ("%s: this is segment %d of a front's log, which goes on after %s: join them by `cat` in this order, it last; if "
+                    "one is gone, give the log itself, which is read from a snapshot on")
             self.assertEqual(str(raised.exception), told % (name, number, before))
 
     def test_good_traces(self):

@@ -217,6 +217,15 @@ class Orders(Asking):
         self.assertEqual([self.running.line(), self.running.line()], ["cancel " + IMSI, "cancel " + OTHER])
         self.assertEqual(self.running.answers(air(NOBODY)), ["unknown " + NOBODY])
 
+    def test_cancel_again(self):
+        """One that comes again after the phone has registered anew is only answered: the phone stays."""
+        self.running.answers("registered " + IMSI)
+        self.assertEqual(result(self.cancel(end=5000)), 2001)
+        self.assertEqual(self.running.line(), "cancel " + IMSI)
+        self.running.answers("registered " + IMSI)
+        self.assertEqual(result(self.cancel(end=5000, flags=R | P | T)), 2001)
+        self.assertEqual(result(self.order(IDR, avp(USER_NAME, IMSI), avp(1400, b"", VENDOR))), RESULTS["unable"])
+
     def test_what_is_refused(self):
         """By the Result-Code of RFC 6733 clause 7.1, with the E bit where it is of the protocol, and the AVP at fault."""
         kind, name = avp(1420, 2, VENDOR), avp(USER_NAME, IMSI)
@@ -476,7 +485,7 @@ class Streams(Asking):
             with open(paths[1], encoding="ascii") as file:
                 self.assertEqual(len({line.split(" ")[2] for line in file if line.startswith("vec ")}), 500)
         done = subprocess.run(words, stdin=subprocess.DEVNULL, capture_output=True, timeout=60, check=False)
-        self.assertEqual((done.returncode, done.stdout), (0, b""))
+        self.assertEqual((done.returncode, done.stdout), (0, b"takes registered gone\n"))
 
     def test_nobody_reads(self):
         source = self.source(self.hss())

@@ -9,9 +9,9 @@ import unittest
 import urllib.request
 import xml.etree.ElementTree
 
+from bench.etcds import free_port
 from tests.tools import tools
 from tests.tools.fronted import HEAD, IMSI, STAND_IN, Running
-from tests.tools.test_front_page import free_port
 from tools import versions as VERSIONS
 
 # ESC, the control sequence introducer among the C1 controls, LF, CR and DEL (ISO/IEC 6429).

@@ -23,6 +23,7 @@ PLAIN = {  # reasons that say themselves what it is
     "it is too short for the security header that it has",
     "count N was accepted at line N",
     "its count N is below N, which was accepted at line N",
+    "the MAC is wrong under vector N's key, for count N, and the keys of contexts that ended before the snapshot aren't known",
     "key set N isn't the phone's, whose context has N",
     "only SECURITY MODE COMPLETE is taken here",
     "transaction N isn't that of the request, N",

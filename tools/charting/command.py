@@ -5,10 +5,12 @@ import os
 import sys
 
 from tools import following, runs, versions
-from tools.charting.rows import PAUSE, rows_of
+from tools.charting.rows import rows_of
 from tools.charting.svg import svg_parts
 from tools.charting.text import LEAST_WIDTH, MOST_WIDTH, USUAL_WIDTH, text_parts
 from tools.eps import story
+from tools.fronting import rest
+from tools.fronting.wording import add_of_snapshots
 
 
 def chosen(rows, name):
@@ -25,35 +27,34 @@ def kept(things, into):
         yield thing
 
 
-def with_clocks(rows, steps, clocks):
-    """The rows, of which the first of each second has at its margin the time of day that stands in the trace."""
+def with_clocks(rows, clocks):
+    """The rows, of which the first of each second has at its margin the time of day of its event."""
     if not clocks.lines:
         return rows
-    times, timed = {}, []
-    for step in steps:
-        clock = clocks.at(step.event.line)
-        if clock is not None:
-            times.setdefault(step.second, clock)
+    shown, timed = None, []
     for row in rows:
-        clock = times.pop(row.second, None) if row.kind != PAUSE else None
-        timed.append(row if clock is None else row._replace(notes=(*row.notes, "at " + following.clock_text(clock))))
+        clock = clocks.at(row.line) if row.second != shown else None
+        if clock is not None:
+            shown, row = row.second, row._replace(notes=(*row.notes, "at " + following.clock_text(clock)))
+        timed.append(row)
     return timed
 
 
 def drawn(given):
     """The parts of the chart that is asked for."""
     gc.disable()  # all that a run is made of stays to the end, so that looking for what doesn't takes a third of the time in vain
-    run = story.run_of(given.trace, given.answers, given.mme, None if given.reasons else story.MOST_TOLD)
+    run = rest.run_of(given, None if given.reasons else story.MOST_TOLD)
     if run.told is None:
         why = story.why_untold(run.trace)
         versions.complain("%s: drawn without reasons and repeats%s" % (why, "" if why == runs.NO_KEYS else "; --reasons has them"))
     steps = []
     rows = rows_of(run.trace, kept(run.steps, steps), run.told)
-    rows = with_clocks(rows, steps, following.Clocks(b"" if given.trace == "-" else runs.read_file(given.trace)))
-    end = runs.end_of(steps)
+    rows = with_clocks(rows, following.Clocks.of(given.trace, run.trace))
+    begun = runs.begun(run.trace)
+    end = max(begun, runs.end_of(steps))
     if given.imsi:
         rows = chosen(rows, given.imsi)
-    return svg_parts(rows, end) if given.svg else text_parts(rows, end, given.width or terminal_width())
+    return svg_parts(rows, end, begun) if given.svg else text_parts(rows, end, given.width or terminal_width(), begun)
 
 
 def terminal_width():
@@ -80,6 +81,7 @@ def parser(doc):
     words.add_argument("--reasons", action="store_true", help="with reasons and repeats, however long the run is")
     words.add_argument("--imsi", help="only the messages of this phone and those of no phone")
     words.add_argument("--mme", metavar="PROGRAM", help="the program that plays TRACE, in place of the one beside this tool")
+    add_of_snapshots(words, "of a front's log, draw")
     return words
 
 

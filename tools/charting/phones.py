@@ -16,12 +16,16 @@ class Phone:
 
 
 class Phones:
-    """Finds the phone of each message, by what it says it is, by ids, and by whom the MME takes it for."""
+    """Finds the phone of each message, by what it says it is, by ids, and by whom the MME takes it for. Where a log is read from a
+    snapshot on, that tells whose the associations are, and were."""
 
-    def __init__(self, imsis):
-        self.imsis, self.causes = imsis, runs.Causes(imsis)
+    def __init__(self, trace):
+        self.imsis, self.causes = trace.imsis, runs.Causes(trace.imsis)
         self.by_imsi, self.by_owner, self.by_tmsi, self.by_mme_id, self.by_radio = {}, {}, {}, {}, {}
         self.is_one_another = False  # whether a phone turned out to be another
+        self.remembered = trace.rest and trace.rest.remembered
+        for slot, mme_id, station, enb_id in self.remembered.connections() if self.remembered else ():
+            self.by_mme_id[mme_id] = self.by_radio[station, enb_id] = self.of_slot(slot)
 
     def of_imsi(self, imsi):
         if imsi not in self.by_imsi:
@@ -69,7 +73,13 @@ class Phones:
             return self.of_slot(slots[0])
         if imsi is not None:
             return self.of_imsi(imsi)
-        return self.of_slot(self.causes.slot_of(heard)) if heard.mme_id is None and not owners else None
+        if owners:
+            return None
+        return self.of_slot(self.causes.slot_of(heard) if heard.mme_id is None else self.slot_before(heard.mme_id))
+
+    def slot_before(self, mme_id):
+        """The slot whose association ended before a snapshot, or nothing."""
+        return self.remembered.slot_before(mme_id) if self.remembered else None
 
     def heard(self, step, heard):
         """The phone of a station's message, or nothing where it is of none."""

@@ -11,8 +11,8 @@ PHONE = object()  # in the arrows and the notes of a row: the row's phone
 MESSAGE, FAULT, STATE, NOTE, PAUSE = "message", "fault", "state", "note", "pause"
 
 Arrow = collections.namedtuple("Arrow", "source target label")
-# `where` is the line of the trace that a row is of, in words.
-Row = collections.namedtuple("Row", "second kind arrows notes phone dropped where", defaults=[False, None])
+# `line` is the number of the line of the trace that a row is of, `where` the same in words.
+Row = collections.namedtuple("Row", "second kind arrows notes phone dropped line where", defaults=[False, None, None])
 
 MOST_LISTED = 4  # associations of a list that are named
 
@@ -132,22 +132,25 @@ def answer_row(second, answer, phones, expected):
     return Row(second, STATE, (), (PHONE, answer.states), phone)
 
 
+EVENT, ANSWER = "line %d", "answer to line %d"  # how a row says which line it is of
+
+
 def step_rows(step, told, phones):
     """The rows of an event and of what was sent for it, by their seconds."""
-    first, line = event_row(step, phones, told), "line %d" % step.event.line
+    first, line = event_row(step, phones, told), step.event.line
     rows = [at_line(first, line)] if first else []
     if told is None:
         if step.answers:
-            rows += [at_line(answer_row(second, answer, phones, None), "answer to " + line) for second, answer in step.answers]
+            rows += [at_line(answer_row(second, answer, phones, None), line, ANSWER) for second, answer in step.answers]
         return rows
     rows += [at_line(row, line) for row in consequence_rows(step, told, phones)]
-    rows += [at_line(answer_row(each.second, each.answer, phones, each.expected), "answer to " + line) for each in told.answered]
+    rows += [at_line(answer_row(each.second, each.answer, phones, each.expected), line, ANSWER) for each in told.answered]
     return sorted(rows, key=lambda row: row.second)
 
 
-def at_line(row, where):
+def at_line(row, line, words=EVENT):
     """A row with the line of the trace that it is of."""
-    return Row(*row[:-1], where)
+    return Row(*row[:-2], line, words % line)
 
 
 BLOCK = 256  # events that are placed at a time: quicker than one by one as each has its answers, and runs.content keeps as many
@@ -155,7 +158,7 @@ BLOCK = 256  # events that are placed at a time: quicker than one by one as each
 
 def rows_of(trace, steps, told=None):
     """The rows of a run, the phones in them by their last names; `told` is the story of it, where it is to be drawn."""
-    phones, rows = Phones(trace.imsis), []
+    phones, rows = Phones(trace), []
     pairs = progress.over("places event", zip(steps, told or itertools.repeat(None)), len(trace.events))
     while block := list(itertools.islice(pairs, BLOCK)):
         for step, each in block:
@@ -163,9 +166,8 @@ def rows_of(trace, steps, told=None):
     return [with_found_phone(row) for row in rows] if phones.is_one_another else rows
 
 
-def with_pauses(rows, end):
-    """The rows, and between them how many seconds pass."""
-    now = 0
+def with_pauses(rows, end, now=0):
+    """The rows, and between them how many seconds pass, from this one on."""
     for row in rows:
         if row.second > now:
             yield pause(now, row.second)

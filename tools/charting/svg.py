@@ -174,15 +174,15 @@ def svg_head(ends, lanes, names, sizes, end):
         yield '<line class="lane" x1="%.0f" y1="%.0f" x2="%.0f" y2="%.0f"/>' % (at, heads + 6, at, sizes[1] - 10)
 
 
-def svg_parts(rows, end):
+def svg_parts(rows, end, begun=0):
     """The chart as SVG 1.1, line by line."""
     ends = Ends(rows)
-    lanes, rows = svg_lanes(ends), list(with_pauses(rows, end))
+    lanes, rows = svg_lanes(ends), list(with_pauses(rows, end, begun))
     width = lanes.end() + SVG_MARGIN
     names = legend_lines(ends, int(width / CHARACTER) - NAME_GAP)
     bounds = abreast.bounds_of(len(rows), 1)
     screens, bottom = svg_screens(rows, bounds, heads_below(names[0]) + 6)
-    yield in_lines(svg_head(ends, lanes, names, (width, bottom + 10), end))
+    yield in_lines(svg_head(ends, lanes, names, (width, bottom + 10), end - begun))
     yield from abreast.made(lambda low, high: svg_part(rows, lanes, screens[low], low, high), bounds)
     yield "</svg>\n"
 

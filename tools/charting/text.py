@@ -119,10 +119,10 @@ class Text:
         return before, shown, line[len(before) + shown:]
 
 
-def text_parts(rows, end, width):
+def text_parts(rows, end, width, begun=0):
     """The chart as text, line by line."""
     ends = Ends(rows)
-    text, rows = Text(ends, width, end), list(with_pauses(rows, end))
+    text, rows = Text(ends, width, end), list(with_pauses(rows, end, begun))
     names, step = legend_lines(ends, width)
     yield "".join("".join(name.ljust(step) for name in line).rstrip() + "\n" for line in [*names, []])
     yield from abreast.made(lambda low, high: text.part(rows, low, high), abreast.bounds_of(len(rows), HEAD_EVERY))

@@ -35,6 +35,7 @@ class Orders:
     def __init__(self, node, output, registered):
         self.node, self.output, self.registered = node, output, registered
         self.done = collections.OrderedDict()  # when each of the last orders was done, by who gave it and its number
+        self.writing = {}  # by the same: who asked, once or again, for what isn't written yet
 
     def take(self, peer, message):
         """Does an order, or says why not."""
@@ -79,22 +80,27 @@ class Orders:
         peer.answer(message, [s6a_application(), code, (avps.AUTH_SESSION_STATE, NO_STATE_MAINTAINED), *identity(self.node)])
 
     def tell(self, peer, message, lines):
-        """Writes what an order means, and answers once it is written; what came before is only answered."""
+        """Writes what an order means, and answers once it is written; what came before is only answered. Whether it is new."""
         key = message.avps.first(avps.ORIGIN_HOST), message.header.end
         self.forget(time.monotonic() - REMEMBERED_SECONDS)
         if key in self.done:
             self.answer(peer, message, Result.SUCCESS)
+        elif key in self.writing:
+            self.writing[key].append((peer, peer.link, message))
         elif self.output.is_full:
             peer.refuse(message, Result.TOO_BUSY, FULL)
         else:
-            link = peer.link
-            self.output.put(lines, lambda: self.told(peer, link, message, key))
+            self.writing[key] = [(peer, peer.link, message)]
+            self.output.put(lines, lambda: self.told(key))
+            return True
+        return False
 
-    def told(self, peer, link, message, key):
+    def told(self, key):
         """It is written. Who asked is answered on the connection that brought it."""
         self.done[key] = time.monotonic()
-        if peer.link is link:
-            self.answer(peer, message, Result.SUCCESS)
+        for peer, link, message in self.writing.pop(key):
+            if peer.link is link:
+                self.answer(peer, message, Result.SUCCESS)
 
     def forget(self, before):
         """Forgets what was done before this time."""
@@ -104,8 +110,8 @@ class Orders:
     def cancel(self, peer, message):
         """Cancel-Location-Request: success, whether or not the phone is here."""
         imsi = message.avps.first(avps.USER_NAME)
-        self.registered.discard(imsi)
-        self.tell(peer, message, answer(CANCEL, imsi))
+        if self.tell(peer, message, answer(CANCEL, imsi)):
+            self.registered.discard(imsi)
 
     def reset(self, peer, message):
         """Reset-Request: the HSS may have lost where phones are, all or those whose IMSIs begin so."""

@@ -61,6 +61,7 @@ class Source:
             for number in (signal.SIGTERM, signal.SIGINT):
                 signal.signal(number, lambda *_: None)
             self.loop.watch(ours.fileno(), select.EPOLLIN, lambda events: self.stop(ours.recv(asking.PIECE)))
+            self.output.put(asking.TAKES)
             self.client.begin()
             self.care()
             while not self.is_over:

@@ -47,11 +47,12 @@ class Context:
     """A context by the vector it came of; `accepted` has the line of each accepted uplink count, and `is_right` says whether a
     MAC is."""
 
-    def __init__(self, vector, before, is_right=macs.is_right):
+    def __init__(self, vector, before, is_right=macs.is_right, knows_all=True):
         self.vector, self.kasme, self.key_set, self.is_right = vector, vector.kasme, vector.key_set, is_right
-        self.before = before  # the vectors of earlier contexts
+        self.before, self.knows_all = before, knows_all  # the vectors of earlier contexts, and whether these are all
         self.down, self.last, self.accepted = 0, None, {}
         self.radio_key = self.next_hop = self.chaining = None
+        self.hops = 0  # how many next hops were taken that aren't made yet
 
     def spend(self):
         """The next downlink count."""
@@ -62,11 +63,13 @@ class Context:
 
     def make_radio_key(self, count):
         """KeNB by an uplink count; the first next hop is made of it once it is needed (TS 33.401 clauses A.3, A.4)."""
-        self.radio_key, self.next_hop, self.chaining = ciphers.kenb(self.kasme, count), None, 1
+        self.radio_key, self.next_hop, self.chaining, self.hops = ciphers.kenb(self.kasme, count), None, 1, 0
 
     def take_hop(self):
-        before = self.next_hop or ciphers.next_hop(self.kasme, self.radio_key)
-        self.next_hop, self.chaining = ciphers.next_hop(self.kasme, before), (self.chaining + 1) % 8
+        for _ in range(self.hops + 1):
+            before = self.next_hop or ciphers.next_hop(self.kasme, self.radio_key)
+            self.next_hop, self.chaining = ciphers.next_hop(self.kasme, before), (self.chaining + 1) % 8
+        self.hops = 0
 
     def keep(self, count, line):
         self.last = count
@@ -116,10 +119,11 @@ class Context:
             tried = range(bits, count + (1 << width), 1 << width)
             if any(self.is_right(vector.kasme, used, nas.UP, inside, mac) for used in tried):
                 return Refusal(Why.OTHER_KEY, {"other": vector.number, "vector": self.vector.number})
-        return Refusal(Why.WRONG_MAC, {"vector": self.vector.number, "count": count})
+        why = Why.WRONG_MAC if self.knows_all else Why.UNKNOWN_KEY
+        return Refusal(why, {"vector": self.vector.number, "count": count})
 
     def passed(self, used):
-        """A count that was accepted, or that is below one that was."""
+        """A count that was accepted, or that is below one that was; of those before a snapshot the last alone is known."""
         if used in self.accepted:
             line = self.accepted[used]
             return Refusal(Why.COUNT_USED, {"count": used, "line": line}, (line,))

@@ -12,7 +12,7 @@ class Reader(s1ap.Reader):
     """Reads what is written as the standard has it: padding is zero, and each length takes the fewest octets."""
 
     def align(self):
-        if self.bits(-self.at % 8):
+        if self.at % 8 and self.bits(-self.at % 8):
             raise Unreadable("padding that isn't zero")
 
     def length(self):
@@ -201,6 +201,10 @@ class Optional:
     """An optional component of a SEQUENCE."""
     type: Type
 
+    def read(self, reader):
+        """Its value, where it is there."""
+        return self.type.read(reader)
+
 
 class Sequence(Type):
     """An extensible SEQUENCE of named components, with an optional iE-Extensions as the last (X.691 clause 19)."""
@@ -215,12 +219,23 @@ class Sequence(Type):
         values = {}
         for (name, kind), present in zip(self.components, there):
             if present:
-                values[name] = (kind.type if isinstance(kind, Optional) else kind).read(reader)
+                values[name] = kind.read(reader)
         if has_extensions:
             skip_elements(reader)
         if extended:
             skip_additions(reader)
         return values
+
+
+class Fields(Type):
+    """A SEQUENCE of named components that isn't extensible; None stands for one that is absent."""
+
+    def __init__(self, **components):
+        self.components = components
+
+    def read(self, reader):
+        absent = {name for name, kind in self.components.items() if isinstance(kind, Optional) and not reader.bits(1)}
+        return {name: None if name in absent else kind.read(reader) for name, kind in self.components.items()}
 
 
 class Choice(Type):

@@ -27,17 +27,27 @@ class Vector:
 
 @dataclasses.dataclass
 class Profile:
-    """A subscriber: its slot, IMSI, address, its S-GW's address and tunnel end, and its vectors."""
+    """A subscriber: its slot, IMSI, address, its S-GW's address and tunnel end, and its vectors, but for those that were `gone`
+    before a snapshot."""
     slot: int
     imsi: str
     address: str
     gateway: str
     teid: int
     vectors: list
+    gone: int = 0
 
     @property
     def owner(self):
         return "s%d" % self.slot
+
+    def count(self):
+        """How many vectors it was given."""
+        return self.gone + len(self.vectors)
+
+    def add(self, *parts):
+        """It has one more vector."""
+        self.vectors.append(Vector(self.count() + 1, *parts))
 
 
 @dataclasses.dataclass(frozen=True)
@@ -69,8 +79,7 @@ def take_line(profiles, word, fields):
         addresses = (identities.address(32, bytes.fromhex(text)) for text in (address, gateway))
         profiles[imsi] = Profile(len(profiles), imsi, *addresses, int(teid, 16), [])
     elif word == "vec":
-        vectors = profiles[fields[0]].vectors
-        vectors.append(Vector(len(vectors) + 1, *map(bytes.fromhex, fields[1:])))
+        profiles[fields[0]].add(*map(bytes.fromhex, fields[1:]))
 
 
 def provisioned(head):

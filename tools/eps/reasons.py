@@ -8,13 +8,16 @@ import enum
 NAS, S1AP, KEYS = "TS 24.301 clause ", "TS 36.413 clause ", "TS 33.401 clause "
 SCTP, RESET, SET_UP = "TS 36.412 clause 7", S1AP + "8.7.1.2.2", S1AP + "8.7.3.1"
 TRACE, SCRIPT = "README.md, A trace", "docs/SCRIPTS.md, Lines"
+BEFORE = "before the snapshot"  # in the place of a line of the trace
 
 
 @dataclasses.dataclass(frozen=True)
 class Reason:
-    """The words of a reason, and where the standards in their Release 8 (or a page of this repository) have it."""
+    """The words of a reason, and where the standards in their Release 8 (or a page of this repository) have it; and where the words
+    name a line, those for one that lies before the snapshot from which a log is read on."""
     words: str
     clause: str
+    before: str = ""
 
 
 class Why(enum.Enum):
@@ -36,7 +39,8 @@ class Why(enum.Enum):
 
     # Ids of associations.
     NO_ASSOCIATION = Reason("MME id {mme_id} is of no association", S1AP + "10.6")
-    ASSOCIATION_ENDED = Reason("MME id {mme_id} was of a connection that ended at line {line}: {how}", S1AP + "10.6")
+    ASSOCIATION_ENDED = Reason("MME id {mme_id} was of a connection that ended at line {line}: {how}", S1AP + "10.6",
+                               "MME id {mme_id} was of a connection that ended " + BEFORE)
     WRONG_PAIR = Reason("the pair isn't the connection's: MME id {mme_id} is of station {station} with eNB id {enb_id}",
                         S1AP + "10.6")
     NOBODY_RESET = Reason("no association of station {station} is meant by {ids}", RESET)
@@ -62,10 +66,13 @@ class Why(enum.Enum):
     PLAIN = Reason("the message isn't protected, and only a protected one is taken here", NAS + "4.4.4.3")
     WRONG_HEADER = Reason("security header {header} isn't taken here: {belongs}", NAS + "9.3.1")
     CUT_SHORT = Reason("it is too short for the security header that it has", NAS + "9.1")
-    COUNT_USED = Reason("count {count} was accepted at line {line}", NAS + "4.4.3.2")
-    COUNT_PASSED = Reason("its count {count} is below {last}, which was accepted at line {line}", NAS + "4.4.3.2")
+    COUNT_USED = Reason("count {count} was accepted at line {line}", NAS + "4.4.3.2", "count {count} was accepted " + BEFORE)
+    COUNT_PASSED = Reason("its count {count} is below {last}, which was accepted at line {line}", NAS + "4.4.3.2",
+                          "its count {count} is below {last}, which was accepted " + BEFORE)
     OTHER_KEY = Reason("the MAC is right under vector {other}'s key, and the context is vector {vector}'s", NAS + "4.4.4.3")
     WRONG_MAC = Reason("the MAC is wrong under vector {vector}'s key, for count {count}", NAS + "4.4.4.3")
+    UNKNOWN_KEY = Reason("the MAC is wrong under vector {vector}'s key, for count {count}, and the keys of contexts that ended "
+                         "before the snapshot aren't known", NAS + "4.4.4.3")
     COUNTS_SPENT = Reason("the context has no count left", NAS + "4.4.3.5")
 
     # Authentication and security mode.
@@ -114,7 +121,8 @@ class Why(enum.Enum):
     NOTHING_SENT = Reason("the phone has sent no protected message", SCRIPT)
 
     def text(self, facts):
-        return self.value.words.format(**facts)
+        is_before = self.value.before and facts["line"] is None
+        return (self.value.before if is_before else self.value.words).format(**facts)
 
     def clause(self, facts):
         return self.value.clause.format(**facts)

@@ -1,6 +1,7 @@
 """A run told: each event of a trace with what it was, each message of the MME with what it was to the procedure, and where the
 MME did otherwise than the standards' model (world.py) expects.
 """
+import collections
 import dataclasses
 import enum
 import typing
@@ -121,11 +122,15 @@ class Teller:
     """Tells a run, event by event, by a world of its own; `is_right` says whether a MAC is, and `now` takes what is told."""
 
     def __init__(self, trace, is_right=macs.is_right, now=Now):
-        self.world = World(trace.head, is_right, now)
+        rest = trace.rest
+        self.world = rest.remembered.world(is_right, now) if rest else World(trace.head, is_right, now)
+        self.further = collections.deque(rest.further if rest else ())
         self.strayed = set()  # owners of which the MME did otherwise: no more of theirs is compared
 
     def owed(self, event):
         """The second of an event, its refusals and states as lines and its messages, and what it was."""
+        while self.further and self.further[0].line < event.line:
+            self.world.lengthen([self.further.popleft().text])
         second = self.world.second
         line, sent, tellings = self.world.take(event)
         return second, [line, *sent] if line else sent, tellings

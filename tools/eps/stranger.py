@@ -6,7 +6,7 @@ from tools.eps import nas, timers
 from tools.eps.elements import CAUSE, S_TMSI, TAI
 from tools.eps.nas_elements import emm, named
 from tools.eps.provisioned import stranger_id
-from tools.eps.reasons import Why
+from tools.eps.reasons import BEFORE, Why
 from tools.eps.telling import NORMAL_RELEASE, RADIO_UNSPECIFIED, UNKNOWN_ID, UNKNOWN_PAIR, UNSPECIFIED, Place, Said
 
 REJECTS = {nas.ATTACH_REQUEST: nas.ATTACH_REJECT, nas.TAU_REQUEST: nas.TAU_REJECT, nas.SERVICE_REQUEST: nas.SERVICE_REJECT}
@@ -129,7 +129,9 @@ class Stranger:
             self.tell(now, "is refused", Why.NO_SUBSCRIBER, imsi=identity["IMSI"])
             self.refuse(now, nas.ATTACH_REQUEST, NO_SUBSCRIBER)
             return None
-        self.tell(now, "tells the IMSI %s: the attach of line %d is this phone's" % (identity["IMSI"], self.attach.line))
+        line = self.attach.line
+        whence = BEFORE if line is None else "of line %d" % line
+        self.tell(now, "tells the IMSI %s: the attach %s is this phone's" % (identity["IMSI"], whence))
         self.holder, self.timer = subscriber, None
         return subscriber
 

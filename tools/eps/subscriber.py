@@ -70,6 +70,7 @@ class Subscriber:
         self.procedure = self.reachable = None
         self.pages = []
         self.ended = {}  # of each association that ended the line and how
+        self.earlier = 0  # associations that it had before a snapshot, each but the current one ended
         self.contexts = []
         self.capability, self.combined, self.pdn_type, self.transaction, self.asks_information = b"\0\0", False, 1, 0, False
         self.from_idle = False
@@ -230,7 +231,7 @@ class Subscriber:
         return self.no_vector()
 
     def no_vector(self):
-        if self.spent < len(self.profile.vectors):
+        if self.spent < self.profile.count():
             return None
         return Why.NO_VECTOR, attach_reject(17), {"vectors": self.spent}
 
@@ -242,7 +243,7 @@ class Subscriber:
 
     def challenge(self, now):
         """The next vector's challenge."""
-        self.vector = self.profile.vectors[self.spent]
+        self.vector = self.profile.vectors[self.spent - self.profile.gone]
         self.spent += 1
         self.phase = AUTHENTICATING
         self.send_challenge(now)
@@ -356,11 +357,18 @@ class Subscriber:
         else:
             self.on_connection(now, kind)
 
+    def end_of(self, mme_id):
+        """The line at which an association ended, and how; both None where that was before a snapshot, and nothing where there was
+        no such association."""
+        counter = mme_id - id_of_slot(self.profile.slot, 0)
+        return self.ended.get(mme_id, (None, None) if 0 < counter <= self.earlier else None)
+
     def on_other_id(self, now, kind):
-        line, how = self.ended.get(now.mme_id, (None, None))
-        if line is None:
+        end = self.end_of(now.mme_id)
+        if end is None:
             self.tell(now, "is of nobody", Why.NO_ASSOCIATION, mme_id=now.mme_id)
         else:
+            line, how = end
             self.tell(now, "comes too late", Why.ASSOCIATION_ENDED, lines=(line,), mme_id=now.mme_id, line=line, how=how)
         if kind == SWITCH:
             now.send_switch_failure(self.owner, UNKNOWN_ID)
@@ -434,11 +442,16 @@ class Subscriber:
             self.on_wrong_response(now, res)
             return
         self.tell(now, "proves the phone by RES of vector %d" % self.vector.number)
-        self.context = Context(self.vector, [old for old in self.contexts if old is not self.vector], self.is_right)
-        self.contexts.append(self.vector)
+        self.make_context(self.vector)
         self.phase = SECURITY_MODE
         self.send_security_mode(now)
         self.start(now, timers.T3460_SECURITY, self.send_security_mode)
+
+    def make_context(self, vector):
+        """The phone has a context by a vector; those of the vectors that were gone before a snapshot aren't known."""
+        gone = self.profile.gone - sum(known.number <= self.profile.gone for known in (*self.contexts, vector))
+        self.context = Context(vector, [old for old in self.contexts if old is not vector], self.is_right, gone <= 0)
+        self.contexts.append(vector)
 
     def on_wrong_response(self, now, res):
         other = next((vector for vector in self.profile.vectors if vector.xres.hex() == res), None)

@@ -77,21 +77,27 @@ class World:
         self.is_right = is_right
         self.subscribers = [self.subscriber(profile) for profile in profiles]
         self.by_imsi = {each.profile.imsi: each for each in self.subscribers}
+        self.profiles = {profile.imsi: profile for profile in profiles}
         self.second, self.now = 0, now
         self.acts = {word: getattr(self, "on_" + word) for word in runs.EVENTS}
 
     def subscriber(self, profile):
         return Subscriber(self.network, profile, self.alarms, self.near, self.is_right)
 
+    def add(self, profile):
+        """There is one more subscriber."""
+        made = self.by_imsi[profile.imsi] = self.subscriber(profile)
+        self.profiles[profile.imsi] = profile
+        self.subscribers.append(made)
+        return made
+
     def lengthen(self, lines):
         """The head has these further lines."""
-        profiles = {each.profile.imsi: each.profile for each in self.subscribers}
         for line in lines:
             word, *fields = line.decode("latin-1").split(" ")
-            take_line(profiles, word, fields)
-        for profile in list(profiles.values())[len(self.subscribers):]:
-            self.subscribers.append(self.subscriber(profile))
-            self.by_imsi[profile.imsi] = self.subscribers[-1]
+            take_line(self.profiles, word, fields)
+            if word == "sub":
+                self.add(self.profiles[fields[0]])
 
     def forget(self, most):
         """Forgets what it knows for reasons alone, but for the last of it, `most` of a subscriber: so a run may have no end."""

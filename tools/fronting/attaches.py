@@ -76,6 +76,7 @@ class Attaches:
         if slot in self.places and answer.states.startswith(REGISTERED):
             self.front.meters.attaches["completed"] += 1
             self.forget(slot)
+            self.front.note_attached(slot)
         elif slot in self.again:
             self.again.discard(slot)
             self.ask(slot)

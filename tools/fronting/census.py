@@ -25,6 +25,12 @@ class Census:
         self.asked = []  # by group, when it was asked for
         self.wishes, self.is_asking = {}, False
 
+    def begin(self):
+        """Nothing is known of the phones of an MME that begins. Who waits is answered by what was known of those before."""
+        self.answer()
+        self.states, self.asked = [], []
+        self.phones.clear()
+
     def want(self, first, end, seconds, is_wanted, done):
         """Calls `done` once the states of these slots are known as of `seconds` ago at the earliest; not where nobody wants it
         any more by then."""

@@ -1,33 +1,41 @@
 """The command line of tools/front."""
 import argparse
 import contextlib
+import functools
 import ipaddress
 import json
 import os
 import re
+import shlex
+import signal
 import socket
 import sys
 import time
 
 from tools import runs, versions
 
-from tools.fronting import limits
+from tools.fronting import limits, playing, snapshots
 from tools.fronting.etcd import access_of
 from tools.fronting.exchange import END, GO_ON, REFUSE
 from tools.fronting.faults import WRONG, told
 from tools.fronting.front import Front
+from tools.fronting.heads import Gathered, check_sure
 from tools.fronting.keys import NO, YES, Filling, read_vectors
 from tools.fronting.listening import ControlSocket, listener_of, page_listener_of
 from tools.fronting.locking import Lock
+from tools.fronting.mme import library
 from tools.fronting.page import Page
+from tools.fronting.pool import Pool
 from tools.fronting.provisioning import read_head
 from tools.fronting.saying import Voice
 from tools.fronting.segments import whole_series
 from tools.fronting.used import LOG_END, UsedVectors
+from tools.fronting.wording import add_of_snapshots, whole
 
 S1AP_PORT = 36412  # TS 36.412 clause 7
 OF_PHONE, OF_FILE = ("data", "cancel", "show", "tunnel"), ("give",)
 OF_FRONT, OF_BOTH = ("stations", "phones", "counters"), ("health",)
+SNAPSHOT_KEY = "snapshot-key"  # the credential of a service that is the key of snapshots
 NAME = re.compile(r"(?=.{1,253}$)[a-z0-9_-]{1,63}(\.[a-z0-9_-]{1,63})*", re.IGNORECASE)  # of a machine
 
 
@@ -39,9 +47,12 @@ def run(given):
         os.environ.pop("MME_EXPLAIN", None)  # by which `mme` says a line that is wrong, with the keys in it
     voice = Voice(given.log_form == "json")
     try:
+        choose_mme(given)
         if given.anew and not given.resume:
             raise runs.Fault("--anew goes with --resume")
         read_store(given)
+        read_source(given)
+        read_snapshot(given)
         octets = runs.read_file(given.subscribers)
         given.subscribers = "standard input" if given.subscribers == "-" else given.subscribers
         head = read_head(octets, given.subscribers, given.code)
@@ -66,6 +77,14 @@ def run(given):
         voice.close()
 
 
+def choose_mme(given):
+    """Where no program is named, the MME is the library's, if that is there."""
+    if given.mme is None and not given.library:
+        with contextlib.suppress(runs.Fault):
+            given.library = bool(library())
+    given.mme = given.mme or runs.SYSTEM
+
+
 def read_store(given):
     """The words on a store become the way into it."""
     of_store = {"--store-ca": given.store_ca, "--store-cert": given.store_cert, "--store-user": given.store_user,
@@ -80,6 +99,65 @@ def read_store(given):
             raise runs.Fault("%s is of a log in files, and not in a store" % word)
     given.resume = False  # of the files; the log in the store is always gone on with
     given.store = access_of(given.store.split(","), given.store_ca, given.store_cert, given.store_user, given.store_password)
+
+
+def read_source(given):
+    """The words on a source become its own words, and the pool of those who are added."""
+    if given.source is None:
+        if given.add:
+            raise runs.Fault("--add goes with --source")
+        return
+    if not given.library:
+        raise runs.Fault("--source goes with --library: a program takes no vectors while it runs")
+    if given.log_keys == NO:
+        raise runs.Fault("--log-keys no doesn't go with --source, whose vectors have their keys in the log alone")
+    given.source = words_of(given.source)
+    given.add = pool_of(*given.add) if given.add else None
+
+
+def words_of(text):
+    """A program and its words, as a shell parts them."""
+    try:
+        words = shlex.split(text)
+    except ValueError as fault:
+        raise runs.Fault("--source: %s" % fault) from None
+    if not words:
+        raise runs.Fault("--source has a program")
+    return words
+
+
+def pool_of(gateway, network):
+    """The pool behind a gateway, by its address and the phones' network."""
+    try:
+        return Pool(str(ipaddress.IPv4Address(gateway)), ipaddress.IPv4Network(network))
+    except ValueError as fault:
+        raise runs.Fault("--add: %s" % fault) from None
+
+
+def read_snapshot(given):
+    """The words on snapshots become the rule by which they are made, and the file of their key."""
+    for word in (word for word, value in (("--snapshot", given.snapshot), ("--snapshot-key", given.snapshot_key))
+                 if value is not None and not given.library):
+        raise runs.Fault("%s goes with --library" % word)
+    has_keys = given.log_keys == YES
+    if given.snapshot and not has_keys:
+        raise runs.Fault("--snapshot is of a log that keeps the vectors' keys, which a snapshot has too")
+    if given.snapshot is None and given.library and has_keys:
+        given.snapshot = 60 * limits.SNAPSHOT_MINUTES, limits.SNAPSHOT_MIB << 20
+    given.snapshot = given.snapshot or None
+    credential = os.path.join(os.environ.get("CREDENTIALS_DIRECTORY", ""), SNAPSHOT_KEY)
+    if given.library and given.snapshot_key is None and os.path.isabs(credential) and os.path.exists(credential):
+        given.snapshot_key = credential
+
+
+def snapshot(given):
+    """Tells what a log's snapshots have."""
+    try:
+        snapshots.tell(given)
+        return 0
+    except runs.Fault as fault:
+        versions.complain(fault)
+    return WRONG
 
 
 # --- Asking ---
@@ -141,9 +219,11 @@ def ask(given):
     try:
         octets = question(given)
         with connected(given.control, given.wait) as asking:
-            asking.settimeout(limits.GIVING_SECONDS + limits.HOLD_SECONDS)
+            # Many lines are given in the time that they take.
+            asking.settimeout(None if given.word in OF_FILE else limits.ANSWERED_SECONDS)
             try:
-                asking.sendall(octets)
+                with contextlib.suppress(BrokenPipeError, ConnectionResetError):  # what is too much isn't read to its end
+                    asking.sendall(octets)
                 answers = asking.makefile(encoding="utf-8", errors="replace", newline="\n")
                 answer = answers.readline()
                 counters = answers.readline() if wants_log(given) else ""
@@ -157,25 +237,41 @@ def ask(given):
         voice.close()
         return WRONG
     word, _, rest = answer.partition(" ")
-    if word in OF_FRONT and not given.json:
-        print(table(word, json.loads(rest)), end="")
-        if wants_log(given):
-            print(log(json.loads(counters.partition(" ")[2] or "{}").get("log")))
-    else:
-        print(versions.visible((rest if word in OF_FRONT else answer).removesuffix("\n")))
+    try:
+        if word in OF_FRONT and not given.json:
+            print(table(word, json.loads(rest)), end="")
+            if wants_log(given):
+                print(log(json.loads(counters.partition(" ")[2] or "{}").get("log")))
+        else:
+            print(versions.visible((rest if word in OF_FRONT else answer).removesuffix("\n")))
+        sys.stdout.flush()
+    except BrokenPipeError:  # whoever reads it has seen enough
+        os.dup2(os.open(os.devnull, os.O_WRONLY), sys.stdout.fileno())
     return 0 if word.strip() in ("taken", "state", "tunnel", "given", "serves", "follows", *OF_FRONT) else 1
 
 
 # --- A log without keys ---
 
 
+def filled(vectors, log):
+    """The lines of a log, with the keys of these vectors."""
+    filling = Filling(vectors)
+    for path in whole_series(log):
+        with open(path, "rb") as file:
+            yield from filling.whole(line for line in file if line.endswith(b"\n"))
+
+
 def fill(given):
-    """Prints a log with the keys of a file's vectors."""
+    """Prints a log with the keys of a file's vectors; where that is asked for, with all that was given in its head."""
     try:
-        filling = Filling(read_vectors(given.vectors))
-        for path in whole_series(given.log):
-            with open(path, "rb") as file:
-                sys.stdout.buffer.writelines(filling.whole(line for line in file if line.endswith(b"\n")))
+        read = functools.partial(filled, read_vectors(given.vectors), given.log)
+        if given.head:
+            check_sure(given.log)
+            gathered = Gathered(read)
+            for text in gathered.differences():
+                versions.complain(text)
+            read = gathered.lines
+        sys.stdout.buffer.writelines(read())
         sys.stdout.flush()
         return 0
     except BrokenPipeError:
@@ -185,17 +281,18 @@ def fill(given):
     return WRONG
 
 
+def play(given):
+    """Plays a log through the library, and prints what `mme play` prints of a trace."""
+    try:
+        return playing.play(given)
+    except KeyboardInterrupt:
+        return 128 + signal.SIGINT
+    except runs.Fault as fault:
+        versions.complain(fault)
+    return WRONG
+
+
 # --- Words ---
-
-
-def whole(low, high):
-    """Reads a number of a range."""
-    def read(text):
-        try:
-            return runs.number(text, low, high)
-        except runs.Fault as fault:
-            raise argparse.ArgumentTypeError(str(fault)) from None
-    return read
 
 
 def seconds(text):
@@ -205,6 +302,20 @@ def seconds(text):
     except ValueError:
         pass
     raise argparse.ArgumentTypeError("%r isn't a number of seconds from 0.001 to 86400" % text)
+
+
+def snapshot_of(text):
+    """After how many seconds and octets snapshots are made: nothing where none are."""
+    if text == NO:
+        return ()
+    minutes, mark, mib = text.partition(",")
+    try:
+        found = 60 * float(minutes), int(float(mib) * (1 << 20))
+        if mark and 0 < found[0] <= 86400 and 0 < found[1] <= 1 << 32:
+            return found
+    except (ValueError, OverflowError):
+        pass
+    raise argparse.ArgumentTypeError("%r isn't `no`, and no minutes up to 1440 with MiB up to 4096, such as 10,8" % text)
 
 
 def address_of(text):
@@ -274,6 +385,13 @@ def add_log(words):
                        help="size of a segment of the log; default %d MiB" % limits.SEGMENT_SIZE)
     words.add_argument("--segments", type=whole(2, 10000), default=limits.SEGMENTS, metavar="N",
                        help="how many segments of LOG to keep, and of LOG.counts; default %d" % limits.SEGMENTS)
+    words.add_argument("--snapshot", metavar="MINUTES,MIB", type=snapshot_of,
+                       help="with --library: save the MME beside the log, or in the store, after so many minutes, or MiB of "
+                       "LOG.counts, or of turns; default %d,%d; `no` for none" % (limits.SNAPSHOT_MINUTES, limits.SNAPSHOT_MIB))
+    words.add_argument("--snapshot-key", metavar="FILE",
+                       help="with --library: a key of 16 octets or more that seals snapshots; without it, who can write the "
+                       "folder, or to the store, can plant phones; default the service's credential `%s`, if there is one"
+                       % SNAPSHOT_KEY)
     words.add_argument("--sync", choices=(YES, NO), default=YES,
                        help="whether an answer waits until what led to it is on disk (default yes); with no, after a power cut the "
                        "log may lack what was answered, and --resume refuses it")
@@ -282,6 +400,14 @@ def add_log(words):
                        "or go on without a log" % limits.FULL_SECONDS)
     words.add_argument("--log", dest="log_form", choices=("text", "json"), default="text",
                        help="the form of its messages on standard error")
+
+
+def add_source(words):
+    """The words on a source of vectors."""
+    words.add_argument("--source", metavar="WORDS", help="with --library: a program with its words, such as \"mme-vectors serve sims "
+                       "sqns\", that is asked for vectors")
+    words.add_argument("--add", nargs=2, metavar=("ADDRESS", "NETWORK"), help="with --source: provision who asks to attach and has "
+                       "vectors there, with an address of NETWORK and an S-GW at ADDRESS, as the gateway has both")
 
 
 def add_store(words):
@@ -296,12 +422,32 @@ def add_store(words):
     words.add_argument("--store-password", metavar="FILE", help="a file whose first line is that user's password")
 
 
+def add_of_logs(ways, form):
+    """The ways that are of a log alone."""
+    filling = ways.add_parser("fill", help="print a log without keys with the keys of a file", **form)
+    filling.add_argument("vectors", metavar="VECTORS", help="a file with the lines vec, such as SUBSCRIBERS")
+    filling.add_argument("log", metavar="LOG", help="the log, with its earlier segments")
+    filling.add_argument("--head", action="store_true",
+                         help="print the lines that were given while the front ran (`#+ `) in the log's head, and say which lines "
+                         "are answered otherwise then")
+    filling.set_defaults(act=fill)
+    played = ways.add_parser("play", help="play a log through the library, with what was given while the front ran", **form)
+    played.add_argument("log", metavar="LOG", help="the log, with its earlier segments, or LOG.counts; - for standard input")
+    add_of_snapshots(played, "play")
+    played.add_argument("--vectors", metavar="VECTORS", help="of a log without keys, a file with the lines vec, as for `fill`")
+    played.set_defaults(act=play)
+    telling = ways.add_parser("snapshot", help="tell what the snapshots of a log have, without keys", **form)
+    telling.add_argument("log", metavar="LOG", help="the log")
+    telling.add_argument("--snapshot-key", metavar="FILE", help="the key that they are sealed by")
+    telling.set_defaults(act=snapshot)
+
+
 def parser(description):
     form = {"formatter_class": argparse.RawDescriptionHelpFormatter, "allow_abbrev": False}
     words = argparse.ArgumentParser(description=description,
                                     epilog="`tools/front run --help` has the options and the limits.", **form)
     versions.add_to(words)
-    ways = words.add_subparsers(required=True, metavar="run|ask|fill")
+    ways = words.add_subparsers(required=True, metavar="run|ask|fill|play|snapshot")
     live = ways.add_parser("run", help="take stations", epilog=limits.LIMITS, **form)
     live.add_argument("subscribers", metavar="SUBSCRIBERS", help="a file with the lines mme, sub and vec, or - for standard input")
     live.add_argument("log", metavar="LOG", help="the file that gets the trace")
@@ -313,10 +459,11 @@ def parser(description):
                       help="that the MME may owe an answer, default %d; then the front ends with status 76" % limits.ANSWER_SECONDS)
     live.add_argument("--second", type=seconds, default=1.0, metavar="SECONDS", help="the length of a tick, for tests")
     mmes = live.add_mutually_exclusive_group()
-    mmes.add_argument("--mme", metavar="PROGRAM", default=runs.SYSTEM,
-                      help="the program to run, in place of the one beside this tool")
+    mmes.add_argument("--mme", metavar="PROGRAM", help="run this program as the MME, such as `mme`")
     mmes.add_argument("--library", action="store_true",
-                      help="run the MME in the front's own process, by the library for C and Python, and start no program")
+                      help="run the MME in the front's own process, by the library for C and Python, and start no program; default "
+                      "where the library is, and elsewhere the program beside this tool")
+    add_source(live)
     live.set_defaults(act=run)
     asking = ways.add_parser("ask", help="ask a front that runs", **form)
     asking.add_argument("control", metavar="CONTROL", help="its control socket")
@@ -326,10 +473,7 @@ def parser(description):
     asking.add_argument("--json", action="store_true", help="print stations, phones and counters as JSON")
     asking.add_argument("--wait", type=seconds, default=0.0, metavar="SECONDS", help="wait for a front that is still starting")
     asking.set_defaults(act=ask)
-    filling = ways.add_parser("fill", help="print a log without keys with the keys of a file", **form)
-    filling.add_argument("vectors", metavar="VECTORS", help="a file with the lines vec, such as SUBSCRIBERS")
-    filling.add_argument("log", metavar="LOG", help="the log, with its earlier segments")
-    filling.set_defaults(act=fill)
+    add_of_logs(ways, form)
     return words
 
 

@@ -9,10 +9,18 @@ from tools.fronting.guests import Door
 
 WORDS = {"data": 1, "cancel": 1, "show": 1, "give": 1, "stations": 0, "phones": 0, "counters": 0, "health": 0, "bearers": 0,
          "tunnel": 1, "release": 3, "traffic": 1}
-LENGTHS = {b"give": limits.LONGEST_GIVEN, b"traffic": limits.LONGEST_TRAFFIC}  # octets that may follow such a line
 OF_STANDBY = "stations", "phones", "counters", "health"  # what a front answers that only follows the log in a store
 NOT_LEADING = "refused: this front stands by, and another one leads"
 NOBODY = "refused %d: %s" % (runs.UNKNOWN_IMSI, runs.REFUSALS[runs.UNKNOWN_IMSI])
+
+
+def parted(octets, begin, end):
+    """What stands between two places, and what comes after it; of something long without a copy."""
+    if isinstance(octets, bytes):
+        return octets[begin:end], octets[end:]
+    rest = bytes(octets[end:])
+    del octets[end:], octets[:begin]
+    return octets, rest
 
 
 class Control:
@@ -20,30 +28,32 @@ class Control:
 
     def __init__(self, front, listener):
         self.front, self.answered = front, WORDS  # the second has the words that aren't refused for now
+        self.lengths = {b"give": limits.LONGEST_ADDED, b"traffic": limits.LONGEST_TRAFFIC}  # octets that may follow such a line
         self.busy = weakref.WeakSet()  # guests whose line isn't answered yet, and those that follow the tunnels
-        self.door = Door(front.loop, listener, limits.MOST_ASKING, limits.LONGEST_GIVEN + limits.LONGEST_ASKED,
+        self.door = Door(front.loop, listener, limits.MOST_ASKING, limits.LONGEST_ADDED + limits.LONGEST_ASKED,
                          limits.ASKING_SECONDS, self.take)
 
     def take(self, guest, received):
         """Answers the lines that are whole; returns what is left."""
         while guest not in self.busy and guest.is_open:
-            line, end, rest = received.partition(b"\n")
-            if not end or len(line) > limits.LONGEST_ASKED:
-                if len(line) > limits.LONGEST_ASKED:
+            end = received.find(b"\n")
+            if end < 0 or end > limits.LONGEST_ASKED:
+                if len(received) > limits.LONGEST_ASKED:
                     guest.close()
                 break
-            length = self.length_of(line)
-            if length is not None and len(rest) < length:
+            line = bytes(received[:end])
+            length, begin = self.length_of(line), end + 1
+            if len(received) < begin + (length or 0):
+                guest.wanted = begin + length
                 break
-            received = rest[length or 0:]
-            self.answer(guest, line, None if length is None else rest[:length])
+            text, received = parted(received, begin, begin + (length or 0))
+            self.answer(guest, line, None if length is None else text)
         return received
 
-    @staticmethod
-    def length_of(line):
+    def length_of(self, line):
         """How many octets follow a line that has their number, or nothing for another line."""
         word, _, count = line.partition(b" ")
-        if not count.isdigit() or len(count) > 9 or int(count) > LENGTHS.get(word, -1):
+        if not count.isdigit() or len(count) > 9 or int(count) > self.lengths.get(word, -1):
             return None
         return int(count)
 
@@ -65,7 +75,7 @@ class Control:
                 reply(NOT_LEADING)
             elif word in ("data", "cancel", "show"):
                 self.tell_mme(word, runs.imsi_of(fields[0]), reply)
-            elif word.encode() in LENGTHS:
+            elif word.encode() in self.lengths:
                 self.take_text(guest, word, text, reply)
             elif word == "bearers":
                 self.front.followers.follow(guest)
@@ -87,11 +97,18 @@ class Control:
         if imsi not in self.front.head.slots:
             reply(NOBODY)
             return
-        self.front.exchange.put("%s %s" % (word, imsi))
+        exchange, line = self.front.exchange, "%s %s" % (word, imsi)
+        note = lambda answer: reply("state %s %s" % (answer.imsi, answer.states))
+        if word == "show" and self.front.was_given(imsi):
+            exchange.ask([line], note, lambda: None)
+            return
+        exchange.put(line)
         if word == "show":
-            self.front.exchange.shows.append(lambda answer: reply("state %s %s" % (answer.imsi, answer.states)))
+            exchange.shows.append(note)
         else:
-            self.front.exchange.when_kept(lambda: reply("taken"))
+            exchange.when_kept(lambda: reply("taken"))
+            if word == "cancel":
+                self.front.note_cancelled(self.front.head.slots[imsi])
 
     def of_tunnel(self, word, imsi, *end):
         """Tells of a phone's tunnel, or has it be released where it leads to this end."""
@@ -105,7 +122,7 @@ class Control:
     def take_text(self, guest, word, text, reply):
         """A line with octets after it: further subscribers and vectors, or a gateway's counters."""
         if text is None:
-            raise runs.Fault("%s has the number of octets that follow, up to %d" % (word, LENGTHS[word.encode()]))
+            raise runs.Fault("%s has the number of octets that follow, up to %d" % (word, self.lengths[word.encode()]))
         if word == "give":
             self.front.give(text, reply)
         else:

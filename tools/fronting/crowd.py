@@ -40,6 +40,8 @@ class Crowd:
         self.stations, self.used = {}, set()  # by number; the numbers that a connection had
         self.eager, self.addresses = {}, collections.Counter()
         self.pace, self.wakes, self.listeners = Pace(limits.CONNECTION_RATE), None, []
+        self.sift = lambda said: said  # what is left of what stations said, where some of it is held
+        self.let_go = lambda station: None  # who has what is held of a station be heard, before it is lost
 
     # Connections.
 
@@ -140,7 +142,7 @@ class Crowd:
         parts = len(due) or 1
         share, octets = max(1, limits.TURN_MESSAGES // parts), limits.TURN_OCTETS // parts
         said = [(station, station.take(min(share, allowed), octets, now)) for station, allowed in due]
-        self.hear([(station, messages) for station, messages in said if messages])
+        self.hear(self.sift([(station, messages) for station, messages in said if messages]))
         goes_on = [self.settle(station) for station, _ in due]
         self.wake_for(paced, now)
         return any(goes and station.allows(now) for goes, (station, _) in zip(goes_on, due))
@@ -192,7 +194,7 @@ class Crowd:
         elif is_silent(octets):
             batch.note_still(line, True)
         elif octets[1:2] == RESETS:
-            batch.note_reset(station.number, station.associations.is_reset_of_nobody(octets, len(self.exchange.imsis)), line)
+            batch.note_reset(station.number, station.associations.is_reset_of_nobody(octets, self.exchange.slots), line)
 
     def speak_for(self, number, octets, why):
         """A station is heard to say something that it didn't, with a comment in the log on who did; whether it is there."""
@@ -253,6 +255,7 @@ class Crowd:
     def part_from(self, station):
         """A station is lost, and its number free."""
         number = station.number
+        self.let_go(station)
         station.is_lost = True
         self.loop.unwatch(station.link.connection.fileno())
         self.eager.pop(station, None)
@@ -280,6 +283,7 @@ class Crowd:
     def lose_all(self):
         """Each station is lost; its connection stays until the last answers are sent."""
         for number in sorted(self.stations):
+            self.let_go(self.stations[number])
             self.exchange.lose(number)
 
     def close(self):

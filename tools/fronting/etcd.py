@@ -19,7 +19,8 @@ from tools.fronting import limits
 from tools.fronting.faults import Failed, NOT_YET, told
 
 HTTP, HTTPS, PORT = "http", "https", 2379
-AUTHENTICATE, RANGE, TXN, METRICS = "/v3/auth/authenticate", "/v3/kv/range", "/v3/kv/txn", "/metrics"
+AUTHENTICATE, METRICS = "/v3/auth/authenticate", "/metrics"
+RANGE, TXN, COMPACTION = "/v3/kv/range", "/v3/kv/txn", "/v3/kv/compaction"
 # Why etcd refuses something, by the numbers of gRPC: it would refuse it again, or it doesn't know who asks any more.
 REFUSALS, UNAUTHENTICATED = (3, 7), 16
 OLD_USERS, NO_ROOM = "revision of auth store is old", "space exceeded"  # users changed since; the quota is reached

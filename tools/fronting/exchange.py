@@ -20,11 +20,11 @@ from tools.fronting.challenges import AUTHENTICATION_REQUEST_DIGITS, challenged
 from tools.fronting.faults import BABBLES, Ended, Failed, LOG_FAILS, SILENT, Unheld, told
 from tools.fronting.journal import Batch
 from tools.fronting.meters import CONTEXT_REQUEST, DOWNLINK, ERROR_INDICATION, RESET_ACKNOWLEDGE, SETUP_RESPONSE
-from tools.fronting.mme import MARK_ANSWER
+from tools.fronting.mme import MARK_ANSWER, NOT_TAKEN, TAKEN, nothing
 from tools.fronting.used import entry_of
 
 OUT, STATE, PHONE_OWNER, OWNERS = b"out ", b"state ", ord("s"), b"esx"
-OUT_OF_PHONE = OUT + b"s"
+OUT_OF_PHONE, OF_FURTHER = OUT + b"s", (TAKEN, NOT_TAKEN)
 NO_OCTETS = b"-"
 NUMBERS = {b"%d" % number: number for number in range(runs.STATIONS)}
 # How messages begin of which more is noted than that they go out; by one of the first two the MME may say that nothing changed.
@@ -38,8 +38,8 @@ class Exchange:
 
     def __init__(self, loop, voice, meters, used, full_disk=END):
         self.loop, self.voice, self.meters, self.used, self.full_disk = loop, voice, meters, used, full_disk
-        self.journal = self.program = self.make = self.mark = None
-        self.imsis = []  # by slot
+        self.journal = self.program = self.make = self.mark = self.nobody = None  # the last: the IMSI of the mark
+        self.imsis, self.coming = [], set()  # by slot; those that are to be given
         self.replayed = None  # while a log is played, the vectors of its challenges, each as LOG.used has it
         self.keeps_challenges = False  # whether it was said that none goes out
         self.batch, self.closed, self.marks = Batch(), [], collections.deque()
@@ -48,9 +48,14 @@ class Exchange:
         self.held = collections.deque()  # what waits for the log: a turn, writes beside it, what is to be done then, and with what
         self.later = []  # what is done once the log takes the next turn
         self.note_challenge = lambda slot, rand: None  # who is told of each challenge, those that were sent before among them
+        self.passes_over = lambda slot, rand, station, octets: False  # who is told of each that is new; whether it goes to nobody
         self.note_context = lambda slot, station, octets: None  # who is told of each INITIAL CONTEXT SETUP REQUEST of a phone
         self.follow = lambda batch: None  # who is told of each batch that the MME is given
         self.note_settled = lambda batch: None  # who is told of each batch that is answered and kept
+        self.lengthen = lambda lines: None  # who is told of further lines of provisioning that the MME took
+        self.note_refused = lambda number, line: None  # who is told of one that it refused, and by which number
+        self.note_further = lambda lines: None  # who is told of all of them, in their order
+        self.note_missing = nothing  # who is told that a part of what counts is missing
         self.dirty, self.rest, self.heard_at = set(), b"", 0.0
         self.has_answered, self.held_since = False, None
         self.is_replaying = False  # whether answers are those that were given before
@@ -60,9 +65,25 @@ class Exchange:
 
     def begin(self, make, head):
         """Starts the MME with this head; `make` makes one, by the loop, what hears its answers, and what hears its words."""
-        self.make, self.mark, self.imsis = make, b"data %s\n" % head.unknown_imsi().encode(), head.imsis
+        self.make, self.imsis, self.coming = make, head.imsis, set()
+        self.mark_by(head.unknown_imsi())
         self.adopt(make(self.loop, self.hear, self.voice.say))
-        self.program.give(head.text.encode("latin-1"))
+        self.program.begin(head)
+
+    def mark_by(self, imsi):
+        """Marks are for this IMSI, which nobody has."""
+        self.nobody, self.mark = imsi, b"data %s\n" % imsi.encode()
+
+    def keep_unknown(self, imsis):
+        """Subscribers of these IMSIs are to come: a mark is for none of them."""
+        self.coming |= imsis
+        if self.nobody in imsis:
+            self.mark_by(runs.unknown_imsi(self.coming.union(self.imsis)))
+
+    @property
+    def slots(self):
+        """How many subscribers there are or are to come."""
+        return len(self.imsis) + len(self.coming)
 
     def adopt(self, program):
         """From now on this one is the MME."""
@@ -295,11 +316,14 @@ class Exchange:
         """Says which segments went for new ones."""
         for series, path in self.journal.take_gone():
             self.meters.gone += 1
-            self.voice.say("segment_gone", "%s is the oldest segment, and removed: %s" % (path, self.meant_by_missing(series)),
+            self.voice.say("segment_gone", "%s is the oldest segment, and removed: %s" % (
+                path, self.meant_by_missing(series, is_old=True)),
                            path=path)
 
-    def meant_by_missing(self, series):
-        """What it means that a part of a series is missing."""
+    def meant_by_missing(self, series, is_old=False):
+        """What it means that a part of a series, or of its oldest segments, is missing."""
+        if series is self.journal.counts and self.journal.needed is not None:
+            return "a snapshot has what it led to" if is_old else "--resume can't use this run until there is another snapshot"
         if series is self.journal.counts:
             return "--resume and give can't use this run any more"
         return "the trace no longer plays from its beginning"
@@ -364,6 +388,8 @@ class Exchange:
                 if change:
                     self.voice.say("log_" + change.split()[-1], "%s %s: what comes is in a new file there, and %s" % (
                         series.path, change, self.meant_by_missing(series)), path=series.path)
+                    if series is self.journal.counts:
+                        self.note_missing()
                 elif rolls:
                     self.journal.roll(series)
             self.write_settled(rolls)
@@ -397,22 +423,44 @@ class Exchange:
     def hear(self, piece):
         """Takes a piece of the MME's answers."""
         self.heard_at = time.monotonic()
-        lines, messages = (self.rest + piece).split(b"\n"), []
+        lines, messages, further = (self.rest + piece).split(b"\n"), [], []
         self.rest = lines.pop()
+        takes_further = self.program.takes_further
         for line in lines:
+            if messages and line[:4] != OUT:
+                self.take_messages(messages)
+                messages = []
+            if takes_further and line[:2] in OF_FURTHER:
+                further.append(line)
+                continue
+            if further:
+                self.take_further(further)
+                further = []
             if line[:4] == OUT:
                 messages.append(line)
-                continue
-            self.take_messages(messages)
-            messages = []
-            if line == MARK_ANSWER and self.marks:
+            elif line == MARK_ANSWER and self.marks:
                 self.has_been_answered(self.marks.popleft())
             elif not self.is_replaying or self.shows and line.startswith(STATE):
                 self.take_other(line)
         self.take_messages(messages)
+        if further:
+            self.take_further(further)
         self.write_beside()
         if len(self.rest) > runs.LONGEST_LINE:
             raise Failed("the MME's answer is longer than %d octets" % runs.LONGEST_LINE, BABBLES)
+
+    def take_further(self, lines):
+        """Takes answers in a row to further lines of provisioning."""
+        answers = b"\n".join(lines).decode("latin-1").split("\n")
+        taken = [answer[len(TAKEN):] for answer in answers if answer[0] == "+"]
+        refused = [answer.split(" ", 2) for answer in answers if answer[0] == "-"] if len(taken) < len(answers) else []
+        self.note_further([answer[len(TAKEN):] if answer[0] == "+" else answer.split(" ", 2)[2] for answer in answers]
+                          if refused else taken)
+        self.lengthen(taken)
+        if self.coming:
+            self.coming.difference_update([line.split(" ", 2)[1] for line in taken if line.startswith("sub ")])
+        for _, number, text in refused:
+            self.note_refused(int(number), text)
 
     def take_messages(self, lines):
         """Takes answers in a row that are messages."""
@@ -460,6 +508,8 @@ class Exchange:
             if rand is None:
                 continue
             self.note_challenge(slot, rand)
+            if self.passes_over(slot, rand, NUMBERS[number], octets):
+                messages[at] = message = (slot, number, None, octets, message[-1])
             if not challenges:
                 self.do(batch.turn, self.hand_on, messages[begun:at])
                 begun = at
@@ -530,7 +580,8 @@ class Exchange:
     def has_been_answered(self, batch):
         """All of a batch is answered."""
         self.has_answered = True
-        for act in batch.after:
+        after, batch.after = batch.after, []  # they know the batch, and it goes once it doesn't know them
+        for act in after:
             act()
         self.do(batch.turn, self.settle, batch)
 

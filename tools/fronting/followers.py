@@ -38,6 +38,7 @@ class Followers:
 
     def __init__(self, front):
         self.front, self.all = front, []
+        self.count = len(front.head.imsis)  # of the subscribers that may be told of
         self.bearers = Bearers(self.tell, self.ask)
 
     def words(self, slot):
@@ -58,7 +59,8 @@ class Followers:
         self.go_on(self.all[-1])
 
     def lengthen(self):
-        """There are further subscribers."""
+        """There are further subscribers, whose lines are kept."""
+        self.count = len(self.front.head.imsis)
         for follower in self.all:
             self.go_on(follower)
 
@@ -78,11 +80,11 @@ class Followers:
             follower.is_resting = True
             self.front.loop.after(REST, lambda: self.tell_piece(follower))
             return
-        slots = range(follower.told, min(follower.told + PIECE, len(head.imsis)))
+        slots = range(follower.told, min(follower.told + PIECE, self.count))
         follower.told = slots.stop
         lines = [head.subscribers[slot] + "\n" for slot in slots]
         lines += [self.line(slot) for slot in slots if bearers.tunnel(slot)]
-        is_last = slots.stop == len(head.imsis)
+        is_last = slots.stop == self.count
         if is_last and follower.is_new:
             follower.is_new = False
             lines.append("now\n")

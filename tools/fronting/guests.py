@@ -12,12 +12,14 @@ REST = 0.02  # seconds until a door that too many came to opens again, and until
 
 
 class Guest:
-    """One who asks. `take` is called with what it has said so far, and returns what is left of that."""
+    """One who asks. `take` is called with what it has said so far, and returns what is left of that; where that is the beginning of
+    something long, it has said by `wanted` how many octets are to come together, which it is given as a bytearray."""
 
     def __init__(self, loop, connection, most, seconds, take, left):
         self.loop, self.connection, self.most, self.seconds = loop, connection, most, seconds
         self.take, self.left = take, left  # what is done with what it says, and when it has gone
         self.received, self.waiting, self.size = b"", collections.deque(), 0
+        self.further, self.wanted = bytearray(), 0  # of what is wanted together, what came
         self.is_last, self.is_open, self.is_deaf, self.is_resting = False, True, False, False
         self.timer = None
         self.rest_assured()
@@ -59,11 +61,23 @@ class Guest:
         if not piece:
             self.close()
             return
-        self.received = self.take(self, self.received + piece)
+        if self.wanted:
+            self.further += piece
+            if len(self.further) < self.wanted:
+                return
+            piece, self.further = self.further, bytearray()
+        self.hear(self.received + piece if self.received else piece)
         if len(self.received) > self.most:
             self.close()
-        elif self.received and self.is_open and len(piece) < limits.PIECE:
+        elif self.received and not self.wanted and self.is_open and len(piece) < limits.PIECE:
             self.rest()
+
+    def hear(self, received):
+        """Has what it said be taken; of something long what is left waits for the rest of it."""
+        self.wanted = 0
+        self.received = self.take(self, received)
+        if self.wanted:
+            self.further, self.received = bytearray(self.received), b""
 
     def rest(self):
         """Reads on in a while, since it speaks in small pieces."""
@@ -79,7 +93,7 @@ class Guest:
     def go_on(self):
         """Looks again at what it said."""
         if self.is_open:
-            self.received = self.take(self, self.received)
+            self.hear(self.received)
 
     def say(self, octets, is_last=False):
         """Tells it something; after the last it goes."""

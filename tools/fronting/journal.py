@@ -21,9 +21,9 @@ import time
 from tools import runs
 
 from tools.fronting import limits
-from tools.fronting.faults import Failed, LOG_FAILS
+from tools.fronting.faults import Failed, LOG_FAILS, Unheld, told
 from tools.fronting.keys import Whole
-from tools.fronting.segments import Reading, Series
+from tools.fronting.segments import SNAPSHOT, Series, numbered
 from tools.fronting.syncing import folder_of, forget_unsynced, note_unsynced, sync_path
 from tools.fronting.turns import Turns
 
@@ -58,11 +58,12 @@ class Batch:
     of each line, where that isn't the line. `asked` has by a line whose states the MME is asked for right after it, `turn` is the
     number of its turn, 0 for what stood in the log before, `octets` are those of messages alone, `before` is how many lines of the
     log stand before it, where that is known, and `whole` the lines as octets, once they were wanted. `said`, `sent` and `lost` have
-    what of it says where tunnels end (bearers.py): messages of stations, answers, and stations that were lost."""
+    what of it says where tunnels end (bearers.py): messages of stations, answers, and stations that were lost. `has_further` is
+    whether lines of provisioning are given in it."""
 
     __slots__ = ("lines", "logged", "owners", "heard", "idle", "nobodys", "meant", "associations", "still", "moving", "asked",
                  "given", "after", "place", "time", "answers", "has_ticks", "turn", "octets", "before", "whole", "said", "sent",
-                 "lost")
+                 "lost", "has_further")
 
     def __init__(self):
         self.lines, self.logged, self.owners, self.heard, self.idle, self.has_ticks = [], None, [], {}, {}, False
@@ -71,13 +72,19 @@ class Batch:
         self.given, self.after, self.place, self.time, self.answers = 0.0, [], None, None, 0
         self.turn = self.octets = 0
         self.before = self.whole = None
-        self.said, self.sent, self.lost = [], [], []
+        self.said, self.sent, self.lost, self.has_further = [], [], [], False
 
     def add(self, line, station=None):
         """A line, and the station that it is a message of."""
         self.lines.append(line)
         self.owners.append(station)
         self.has_ticks = self.has_ticks or line.startswith("tick ")
+
+    def add_further(self, lines):
+        """Further lines of provisioning."""
+        self.lines += [runs.FURTHER + line for line in lines]
+        self.owners += [None] * len(lines)
+        self.has_further = self.has_further or bool(lines)
 
     def note_station(self, number, associations, count=0):
         """A station that says so many messages, and the associations that it may have."""
@@ -165,9 +172,12 @@ class Journal(Turns):
         self.folder = None
         self.since = self.fault = None  # since when the turn under way is synced, and the fault of that
         self.chunk, self.sure = None, happened.place  # what counts is written up to there, and surely on disk up to there
-        # How many lines what happened has, where it has its keys, and as its head was when the run began; nothing where that isn't
-        # known; as of which segment; how many lines its head has, and how many of them came since.
-        self.lines, self.segment, self.head_lines, self.lines_given = None, happened.number, 0, 0
+        # How many octets counted since the run began: all, those of the chunk, and those before a line that says so, which is
+        # written, and which is surely on disk; and the first segment of what counts that a start needs, where snapshots are made.
+        self.counted = self.counted_chunk = self.counted_written = self.counted_sure = 0
+        self.needed = None
+        # How many lines what happened has, where it has its keys; nothing where that isn't known; and as of which segment.
+        self.lines, self.segment = None, happened.number
 
     @classmethod
     def begun(cls, path, head, size, most, form=Whole()):
@@ -182,8 +192,7 @@ class Journal(Turns):
         with contextlib.suppress(FileNotFoundError):
             os.unlink(path + GIVEN_UP)  # of another log that stood there
         journal = cls(happened, counts, form)
-        journal.head_lines = octets.count(b"\n")
-        journal.lines = journal.head_lines + 1
+        journal.lines = octets.count(b"\n") + 1
         return journal
 
     def keep_by(self, syncer):
@@ -209,10 +218,6 @@ class Journal(Turns):
     def is_cut(self):
         return self.happened.is_cut
 
-    @property
-    def is_whole(self):
-        return self.counts.is_whole
-
     def add(self, batches):
         """Writes a turn, which the MME is about to be given."""
         for series in self.series:
@@ -234,10 +239,22 @@ class Journal(Turns):
         self.turn += 1
         for batch, end in zip(batches, ends):
             batch.place, batch.turn = (place[0], place[1] + end), self.turn
-        if self.syncer is None:
-            self.committed = self.turn
-        else:
+        if self.syncer is not None:
             self.sync_turn()
+            return
+        if any(batch.has_further for batch in batches):
+            self.sync_further()
+        self.committed = self.turn
+
+    def sync_further(self):
+        """Has a turn with lines of provisioning be on disk before it goes on, though no other is: a power cut may take of LOG.used
+        that a vector was used, and then the log says that it was given."""
+        try:
+            os.fdatasync(self.happened.file)
+            if self.happened.has_new_name:
+                self.sync_names()
+        except OSError as fault:
+            raise Unheld("%s: %s" % (self.path, told(fault)), LOG_FAILS) from None
 
     def count_lines(self, lines, batches):
         """Counts the lines of a turn: so many, and those of these batches. Each new segment has begun with a line."""
@@ -321,6 +338,13 @@ class Journal(Turns):
         """Whole lines count."""
         self.settled.append(text)
         self.octets += len(text)
+        self.counted += len(text)
+
+    def keep_mark(self, line):
+        """A comment counts, right after all that is settled; how many octets count up to its end."""
+        self.write_ticks()
+        self.keep(line)
+        return self.counted
 
     def write_ticks(self):
         """Seconds in which nothing else happened are one line."""
@@ -345,10 +369,11 @@ class Journal(Turns):
         text = b"".join(self.settled) if self.syncer else b"".join(self.settled) + SETTLED_UNTIL % self.until
         if text:
             self.counts.add(text)
-        self.settled, self.octets, self.due, self.chunk = [], 0, now, self.until
+        self.settled, self.octets, self.due, self.chunk, self.counted_chunk = [], 0, now, self.until, self.counted
         if self.syncer is None:
             self.written, self.chunk = self.chunk, None
             self.sure = self.written
+            self.counted_sure = self.counted_written = self.counted_chunk
             self.trim()
         elif at_once:
             self.sync_chunk()
@@ -362,13 +387,15 @@ class Journal(Turns):
     def end_chunk(self):
         """What counts is on disk: says up to where what happened is settled. Then segments that are too many go, but none of what
         happened since a place up to which it is settled by a line that is on disk."""
-        self.sure = self.written
+        self.sure, self.counted_sure = self.written, self.counted_written
         self.counts.write(SETTLED_UNTIL % self.chunk)
-        self.written, self.chunk = self.chunk, None
+        self.written, self.chunk, self.counted_written = self.chunk, None, self.counted_chunk
         self.trim()
 
     def trim(self):
-        for series, needed in ((self.happened, self.sure[0]), (self.counts, self.counts.number)):
+        """Removes segments that are too many, but none that a start needs; without snapshots it needs all of what counts."""
+        counts = self.counts.number if self.needed is None else self.needed
+        for series, needed in ((self.happened, self.sure[0]), (self.counts, counts)):
             self.gone += [(series, path) for path in series.trim(needed)]
 
     def take_gone(self):
@@ -376,16 +403,11 @@ class Journal(Turns):
         gone, self.gone = self.gone, []
         return gone
 
-    def reading(self, go_on):
-        """Reads what counts from its beginning; none of it comes later, for which `go_on` would be called."""
-        return Reading(self.counts)
-
-    def lengthen(self, head, form):
-        """Both series have this head from now on, in the form that it brings; there is no line that has to say so."""
-        self.form = form
-        octets = form.text(head).encode("latin-1")
-        self.lines_given += octets.count(b"\n") - self.head_lines
-        self.head_lines = octets.count(b"\n")
+    def lengthen(self, head):
+        """Both series have this head from now on."""
+        for snapshot in numbered(self.path, SNAPSHOT).values():
+            os.unlink(snapshot)  # since it is of the head before
+        octets = self.form.text(head).encode("latin-1")
         if self.happened.is_whole:
             self.happened.lengthen(octets)
         self.counts.lengthen(octets)

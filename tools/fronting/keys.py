@@ -4,7 +4,7 @@ Of each vector such a log has RAND and AUTN, which are sent plain, and `-` in th
 its challenge sends XRES itself: where a message has one, the log has zeros, after a line that says whose it was. What the file of
 subscribers has as comments isn't there.
 
-    vec 001010000000001 RAND AUTN - -
+    vec 001010000000001 RAND AUTN - -          (or #+ vec .., where it was given while the front ran)
     # left out at octet 27: XRES of 001010000000001 RAND AUTN
     in 0 000d..
 
@@ -14,12 +14,12 @@ import re
 
 from tools import runs
 
-from tools.fronting.provisioning import Head
 from tools.fronting.segments import NUMBERED_LINE
 
 YES, NO = "yes", "no"  # whether a log keeps keys
 PUT_BACK = re.compile(re.escape(runs.LEFT_OUT) + r"(\d+): XRES of (\d+ [0-9a-f]+ [0-9a-f]+)")
 MESSAGES = ("in ", "# came protected: in ")  # how lines begin that end with a message in hex
+ALIKE = "two vectors of %s have the same RAND and AUTN, and a log without keys can't tell them apart"
 XRES = re.compile("(?:[0-9a-f]{2}){4,16}")  # TS 33.102 clause 6.3.7: 4 to 16 octets
 
 
@@ -30,7 +30,7 @@ class Missing(runs.Fault):
 def parted(line):
     """A vector's name, which is its IMSI, RAND and AUTN in small letters, and its keys, XRES and KASME."""
     words = line.split(" ")
-    return " ".join(words[1:4]).lower(), words[4:]
+    return " ".join(words[1:4]).lower(), " ".join(words[4:])
 
 
 def without_keys(line):
@@ -38,29 +38,36 @@ def without_keys(line):
     return " ".join(line.split(" ")[:4] + [runs.NO_KEY] * 2) if line.startswith("vec ") else line
 
 
-class Vectors:
-    """The keys of vectors by the vectors' names: of lines, and of those that were known before."""
+def apart(line):
+    """How a line begins that was given where it stands, and what it is; of another line nothing, and itself."""
+    return (runs.FURTHER, line[len(runs.FURTHER):]) if line.startswith(runs.FURTHER) else ("", line)
 
-    def __init__(self, lines=(), before=None):
-        self.keys = dict(before.keys) if before else {}
+
+class Vectors:
+    """The keys of vectors by the vectors' names: of lines, and of those that were known before. (Dicts of strings alone take no
+    time of Python's where it looks for what isn't used any more, however many vectors they have.)"""
+
+    def __init__(self, lines=()):
+        self.keys = {}
         for line in lines:
             if line.startswith("vec "):
                 self.add(line)
 
-    def add(self, line):
-        """One more vector, by its line."""
+    def add(self, line, before=None):
+        """One more vector, by its line, which stands beside those that were known before."""
         name, keys = parted(line)
         imsi = name.partition(" ")[0]
-        if runs.NO_KEY in keys:
+        if runs.NO_KEY in keys.split(" "):
             raise runs.Fault("a vector of %s has no keys: they were left out of a log" % imsi)
-        if [key.lower() for key in self.keys.setdefault(name, keys)] != [key.lower() for key in keys]:
-            raise runs.Fault("two vectors of %s have the same RAND and AUTN, and a log without keys can't tell them apart" % imsi)
+        for other in (self.keys.setdefault(name, keys), before.keys.get(name, keys) if before else keys):
+            if other is not keys and other.lower() != keys.lower():
+                raise runs.Fault(ALIKE % imsi)
 
     def of(self, name):
         """The keys of a vector."""
         if name not in self.keys:
             raise Missing("the log has a vector of %s, by its RAND and AUTN, that isn't among those given" % name.partition(" ")[0])
-        return self.keys[name]
+        return self.keys[name].split(" ")
 
 
 def read_vectors(path):
@@ -77,27 +84,31 @@ def read_vectors(path):
 
 
 class Finder:
-    """Finds where hex digits have an XRES."""
+    """Finds where hex digits have an XRES, by the XRESs of each length with their vectors' names, the longest first."""
 
     def __init__(self, vectors):
-        names = {}
-        for name, (xres, _) in vectors.keys.items():
-            if XRES.fullmatch(xres.lower()):
-                names.setdefault(xres.lower(), name)
-        self.least, self.by_start = min(map(len, names), default=0), {}
-        for xres in sorted(names, key=len, reverse=True):
-            self.by_start.setdefault(xres[:self.least], []).append((xres, names[xres]))
+        self.by_length = {}
+        self.add(vectors.keys)
+
+    def add(self, keys):
+        """Finds those of further vectors too."""
+        for name, known in keys.items():
+            xres = known.partition(" ")[0].lower()
+            if XRES.fullmatch(xres):
+                if len(xres) not in self.by_length:
+                    self.by_length = dict(sorted([*self.by_length.items(), (len(xres), {})], reverse=True))
+                self.by_length[len(xres)].setdefault(xres, name)
 
     def places(self, digits):
         """Each place of an XRES from the left, with the XRES and its vector's name; none begins in another."""
-        least, known, found, end = self.least, self.by_start, [], 0
-        if not known:
-            return found
-        for at in [at for at in range(0, len(digits) - least + 1, 2) if digits[at:at + least] in known]:
-            fits = next(((xres, name) for xres, name in known[digits[at:at + least]] if digits.startswith(xres, at)), None)
-            if fits and at >= end:
-                found.append((at, *fits))
-                end = at + len(fits[0])
+        longest, found, end = {}, [], 0
+        for length, known in self.by_length.items():
+            for at in [at for at in range(0, len(digits) - length + 1, 2) if digits[at:at + length] in known]:
+                longest.setdefault(at, digits[at:at + length])
+        for at, xres in sorted(longest.items()):
+            if at >= end:
+                found.append((at, xres, self.by_length[len(xres)][xres]))
+                end = at + len(xres)
         return found
 
 
@@ -109,8 +120,9 @@ class Filling:
 
     def line(self, text):
         """A line with its keys."""
-        if text.startswith("vec ") and text.endswith(" " + runs.NO_KEY):
-            return " ".join(text.split(" ")[:4] + self.vectors.of(parted(text)[0]))
+        beginning, line = apart(text)
+        if line.startswith("vec ") and line.endswith(" " + runs.NO_KEY):
+            return beginning + " ".join(line.split(" ")[:4] + self.vectors.of(parted(line)[0]))
         if found := PUT_BACK.fullmatch(text):
             self.places.append((2 * int(found[1]), self.vectors.of(found[2])[0].lower()))
             return text
@@ -140,10 +152,6 @@ class Whole:
 
     has_keys, note = True, ""
 
-    def of(self, head):
-        """What it is with a longer head."""
-        return self
-
     def text(self, head):
         """What it has of a head."""
         return head.text
@@ -152,13 +160,38 @@ class Whole:
         """What it has of lines that the MME is given."""
         return lines
 
+    def add(self, lines):
+        """There are these further lines of provisioning."""
+
+    def further(self):
+        """What takes lines that may be further ones, each by `add`, and refuses one that the log can't have."""
+        return Anything()
+
     def filling(self):
         """What makes of its octets, whole lines in their order, those that the MME was given."""
         return lambda octets: octets
 
-    def taken_up(self, stands, given):
-        """The head to go on with after a log with the one that stands; nothing where the given one doesn't begin with it."""
-        return stands if stands.is_beginning_of(given) else None
+    def taken_up(self, standing, given):
+        """The lines that stand in a log, with all keys, where those that are given begin with them; else nothing."""
+        return standing if given[:len(standing)] == standing else None
+
+
+class Anything:
+    """Takes all lines."""
+
+    def add(self, line):
+        """One more line."""
+
+
+class Beside:
+    """Takes vectors that can be told apart, also from those that there are."""
+
+    def __init__(self, before):
+        self.before, self.vectors = before, Vectors()
+
+    def add(self, line):
+        """One more vector, by its line."""
+        self.vectors.add(line, self.before)
 
 
 class Keyless:
@@ -166,18 +199,29 @@ class Keyless:
 
     has_keys, note = False, ", without keys"
 
-    def __init__(self, head, before=None):
-        self.vectors = Vectors(head.facts, before)
+    def __init__(self, head):
+        self.vectors = Vectors(head.facts)
         self.finder = Finder(self.vectors)
-
-    def of(self, head):
-        return Keyless(head, self.vectors)
 
     def text(self, head):
         return "".join(without_keys(line) + "\n" for line in head.facts)
 
+    def add(self, lines):
+        vectors = Vectors(lines)
+        self.vectors.keys.update(vectors.keys)
+        self.finder.add(vectors.keys)
+
+    def further(self):
+        return Beside(self.vectors)
+
     def written(self, lines):
-        return [self.without(line) if line.startswith(MESSAGES) else line for line in lines]
+        return [self.without(line) if line.startswith(MESSAGES) else self.of_further(line) for line in lines]
+
+    @staticmethod
+    def of_further(line):
+        """A line that is no message: one that was given has no keys."""
+        beginning, line = apart(line)
+        return beginning + without_keys(line) if beginning else line
 
     def without(self, line):
         """A message, and before it perhaps how it came, each without an XRES and after a line for each that is left out."""
@@ -193,9 +237,9 @@ class Keyless:
     def filling(self):
         return Filling(self.vectors)
 
-    def taken_up(self, stands, given):
-        facts = given.facts[:len(stands.facts)]
-        return Head(facts) if list(map(without_keys, facts)) == stands.facts else None
+    def taken_up(self, standing, given):
+        facts = given[:len(standing)]
+        return facts if list(map(without_keys, facts)) == standing else None
 
 
 def form_of(keeps_keys, head):

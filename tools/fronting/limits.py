@@ -23,12 +23,14 @@ TURN_OCTETS = 1 << 18  # octets of them, after which no other station has its tu
 IN_FLIGHT = 2  # turns whose answers are still due, beyond which no station has its turn
 
 LIBRARY_SECONDS = 0.01  # that an MME in this process plays lines in a turn
+LIBRARY_OCTETS = 1 << 12  # of lines that one call of the library plays, but for a longer line
+PLAYED_OCTETS = 1 << 16  # the same where a log alone is played, and octets of one read of it
 FIRST_SECONDS = 30  # for the MME to take the head and to answer
 ANSWER_SECONDS = 10  # without a word of the MME while an answer is due
 LAST_SECONDS = 5  # for it to end
 SENDING_SECONDS = 1  # for what waits to be sent at the end, and for an MME to end by a signal
 
-FEW_VECTORS = 3  # left of a phone, of which the front says so
+FEW_VECTORS, NEVER_FEW = 3, -1  # left of a phone, of which the front says so; where a source supplies more, it doesn't
 MOST_USED = 0.75  # part of the segments of a series, of which the front says so
 SEGMENT_SIZE, SEGMENTS = 64, 16  # MiB of a segment of the log, and how many are kept of each of its two series
 FULL_SECONDS = 60  # that a full disk may keep the stations waiting
@@ -40,19 +42,39 @@ STORE_CALL_SECONDS, STORE_PAGE_SECONDS, STORE_REST, STORE_SECONDS = 1, 3, 0.05, 
 # Seconds between two reads of a standby, and where the first found turns; seconds of silence after which it leads, and seconds
 # without a commit after which a leader ends.
 READING_SECONDS, READING_SOON, SILENCE_SECONDS, UNCOMMITTED_SECONDS = 0.02, 0.005, 3, 5
-TURNS_READ, TURNS_GIVEN = 200, 20  # turns that are read at once, by a standby and for who gives
-STORED_OCTETS, LONGEST_STORED = 1 << 18, 1 << 20  # of a turn, and of lines that are given with it; etcd takes 1.5 MiB at once
-# Of a store that fills: seconds between two looks, the part of its quota of which the front says so, and seconds until a standby
-# tries again to lead where the quota is reached.
-ROOM_SECONDS, FULLEST, FULL_REST = 10, 0.5, 1
+TURNS_READ = 200  # turns that a standby reads at once
+STORED_OCTETS = 1 << 18  # of a turn; etcd takes 1.5 MiB at once
+# Of a store that fills: seconds between two looks, the parts of its quota of which the front says so, in use and of its file, and
+# seconds until a standby tries again to lead where the quota is reached.
+ROOM_SECONDS, FULLEST, LARGEST, FULL_REST = 10, 0.5, 0.9, 1
+# Of snapshots there: octets of a part, how many times as long as one took its maker rests, seconds for an answer, and until it gives
+# up; turns that are removed at once, and parts that are read at once.
+PART_OCTETS, PART_REST, PART_SECONDS, DEPOSIT_SECONDS, TURNS_REMOVED, PARTS_READ = 1 << 16, 19, 5, 30, 1000, 16
 HANGING_SECONDS = 10  # without a turn of the loop, after which a front with a store ends
 
 LONGEST_ASKED = 256  # octets of a line of the control socket
-LONGEST_GIVEN = 1 << 22  # octets of the lines that `give` has after its own
+# Octets of the lines that `give` has after its own; how many of the lines are given in a turn, and the octets and seconds of a step of looking at
+# them.
+LONGEST_ADDED, ADDED_LINES, ADDED_OCTETS, ADDING_SECONDS = 1 << 26, 100, 1 << 14, 0.005
+MOST_SUBSCRIBERS, MOST_UNSPENT = 32768, 64  # that an MME has, and vectors of each
+# Of a source of vectors: those that a phone has unspent before it is asked, and after; those that one who waits is asked for;
+# requests under way for those who don't wait.
+LEAST_STOCK, FULL_STOCK, AT_ONCE, MOST_STOCKING = 3, 5, 2, 8
+# Octets of a line that it tells, of one that it says, and of a read; lines that it says a second; lines that aren't taken in a row.
+LONGEST_SUPPLIED, LONGEST_SAID, SOURCE_PIECE, SOURCE_FAULTS, MOST_WRONG = 256, 1000, 1 << 13, 20, 100
+# Seconds of rest after its end, at first and at most, and where somebody waits; ends at a request, after which it isn't told that
+# again; seconds that it may take for an answer, and until it is asked again.
+SOURCE_PAUSES, SHORT_PAUSE, MOST_ENDS, SUPPLY_SECONDS, LATER_SECONDS = (0.1, 30), 0.5, 3, 10, 30
+# Of what it is told of phones and orders: words under way, registrations that are ended in a second, orders of IMSIs that nobody
+# has in a second, and beginnings of IMSIs of which it orders `reset`.
+MOST_SAYING, CANCELS, SOURCE_ORDERS, MOST_RESETS = 500, 100, 1000, 1000
+# Ticks after which a phone's states are looked at: each procedure has ended by then; its mobile reachable timer ends, of four
+# minutes more than T3412 (TS 24.301 clause 5.3.5); and from then on while it is idle.
+DOUBT_TICKS, REACHABLE_TICKS, IDLE_TICKS = 35, 3480, 60
+HELD_SECONDS, HELD_OCTETS = 2, 1 << 16  # that a message is held for vectors, and of all that are held of a station
 MOST_ASKING = 16  # connections to the control socket at a time
 ASKING_SECONDS = 60  # for one of them to say a whole line, and to read its answer
-GIVING_SECONDS = 120  # for the second MME to play the log
-HOLD_SECONDS = 5  # that the stations wait while it plays the rest
+ANSWERED_SECONDS = 125  # for the front to answer one who asks
 MOST_TOLD = 1 << 24  # octets that wait for one who asks, here or for the page, to read
 MOST_FOLLOWED = 1 << 22  # octets of tunnels that wait for a follower to read; beyond them it is cut off
 MOST_BROWSING, BROWSING_SECONDS, LONGEST_REQUEST = 32, 10, 8192  # connections for metrics and the page, each one's time and octets
@@ -67,6 +89,11 @@ LONGEST_TRAFFIC, LONGEST_NAME, MOST_REASONS_TOLD, MOST_METERED, TRAFFIC_SECONDS 
 MOST_TOLD_OF, MOST_TOLD_BY, MOST_UNTOLD, MOST_UNTOLD_OCTETS, TELLING_SECONDS = 1000, 20000, 20000, 1 << 22, 0.001
 MOST_REASONS, LONGEST_FACT, FORGETS_AFTER, MOST_LINES_OF_PHONE = 2000, 300, 5000, 100
 
+# Of snapshots: the minutes and MiB of what counts after which the next is made, octets that one by time is made for at the least,
+# seconds for which the MME waits for one, until the next may begin, and after a fault, and how many times as long as it took.
+SNAPSHOT_MINUTES, SNAPSHOT_MIB, SNAPSHOT_LEAST = 10, 8, 4096
+SNAPSHOT_HOLD, SNAPSHOT_REST, SNAPSHOT_AGAIN, SNAPSHOT_SHARE = 0.5, 1, 60, 10
+
 PAGE = os.sysconf("SC_PAGE_SIZE")
 WORDS_SAID = 10000  # lines that wait for standard error to be read; further ones are counted and left out
 
@@ -77,8 +104,9 @@ LIMITS = """limits of a station:
   %d s for a message that has begun, and %d s (--setup-seconds) from the connection to the answer to S1 SETUP; otherwise the
   connection ends
   %d octets that wait for the station to read them; beyond them the connection ends
+  %d octets that are held for vectors (--source); beyond them messages go as they are
   %d connections from one address (--per-address), only from addresses of --allow if it is given; a further one is closed at once
 Stations take turns, so a flood from one delays another's message by less than %g s. There are at most %d stations; a further
 connection is closed at once. A faulty connection ends, and no other with it.""" % (
-    LONGEST_MESSAGE, runs.LONGEST_LINE, RATE, OCTETS, PATIENCE, SETUP_SECONDS, MOST_WAITING, PER_ADDRESS, MOST_DELAY,
-    runs.STATIONS)
+    LONGEST_MESSAGE, runs.LONGEST_LINE, RATE, OCTETS, PATIENCE, SETUP_SECONDS, MOST_WAITING, HELD_OCTETS,
+    PER_ADDRESS, MOST_DELAY, runs.STATIONS)

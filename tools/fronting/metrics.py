@@ -108,9 +108,10 @@ def add_upkeep(text, front):
              [({"of": what}, of["share"]) for what, of in log])
     text.add("log_whole", "gauge", "Whether all of the log since the start is there: --resume and give need what counts.",
              [({"of": what}, int(of["whole"])) for what, of in log])
-    alarms, told = status.alarms(front), status.store(front)
+    alarms, told, asked = status.alarms(front), status.store(front), status.source(front)
+    kinds = *status.ALARMS, *([status.STORE] if told else []), *([status.SOURCE] if asked else [])
     text.add("alarm", "gauge", "Whether somebody is to look after it: few vectors or segments are left, or the log isn't whole.",
-             [({"of": what}, int(what in alarms)) for what in (*status.ALARMS, *([status.STORE] if told else []))])
+             [({"of": what}, int(what in alarms)) for what in kinds])
     text.add("log_segments_removed_total", "counter", "Segments of the log that went for new ones.", [({}, meters.gone)])
     if told:
         text.add("store_leads", "gauge", "Whether this front leads, by the log in the store.", [({}, int(told["leads"]))])
@@ -118,13 +119,44 @@ def add_upkeep(text, front):
         text.add("store_turn", "gauge", "The last turn: of this front, and of the store as far as it knows.",
                  [({"of": "front"}, told["turn"]), ({"of": "store"}, told["last_turn"])])
         text.add("store_turns_octets", "gauge", "Octets of the turns up to this front's last one.", [({}, told["octets"])])
-        text.add("store_octets", "gauge", "Octets of the store's fullest member, and of its quota; 0 where that isn't known.",
-                 [({"of": "store"}, told["store_octets"]), ({"of": "quota"}, told["store_quota"] or 0)])
+        text.add("store_octets", "gauge", "Octets of the store's fullest member, used and of its quota; 0 where that isn't known.",
+                 [({"of": "store"}, told["store_octets"]), ({"of": "used"}, told["store_used"]),
+                  ({"of": "quota"}, told["store_quota"] or 0)])
+        add_snapshot(text, front.saving.told().get("snapshot"))
     text.add("memory_octets", "gauge", "Memory of the processes.",
              [({"of": "front"}, status.memory()), ({"of": "mme"}, status.memory(front.exchange.program.pid))])
     text.add("start_seconds", "gauge", "When the front began, in seconds since 1970.", [({}, meters.begun)])
     text.add("resumed", "gauge", "Whether this run goes on after another one.", [({}, front.resumed)])
     text.add("changes_of_mme_total", "counter", "Times that further subscribers or vectors were given.", [({}, front.given)])
+    if asked:
+        add_source(text, asked)
+
+
+def add_snapshot(text, told):
+    """The last snapshot in the store, if there is one."""
+    if told:
+        text.add("store_snapshot_turn", "gauge", "The turn after which the last snapshot in the store is.", [({}, told["turn"])])
+        text.add("store_snapshot_turns_since", "gauge", "Turns since then.", [({}, told["turns_since"])])
+        text.add("store_snapshot_octets", "gauge", "Its octets.", [({}, told["octets"])])
+        text.add("store_snapshot_seconds", "gauge", "When it was made, in seconds since 1970.", [({}, told["time"])])
+
+
+def add_source(text, asked):
+    """The source of vectors, and what is held for it."""
+    text.add("source_runs", "gauge", "Whether the source of vectors runs.", [({}, int(asked["runs"]))])
+    text.add("source_starts_total", "counter", "Times that the source began.", [({}, asked["starts"])])
+    text.add("source_faults_total", "counter", "Times that the source ended, and what it told that isn't taken.",
+             [({"of": "end"}, asked["ends"]), ({"of": "answer"}, asked["wrong"])])
+    text.add("source_requests", "gauge", "Requests to the source that are under way.", [({}, asked["under_way"])])
+    text.add("source_requests_total", "counter", "Requests to the source that are over, by how.",
+             [({"end": how}, count) for how, count in sorted(asked["requests"].items())])
+    text.add("source_vectors_total", "counter", "Vectors that the source supplied.", [({}, asked["vectors"])])
+    text.add("source_words", "gauge", "What is to be said to the source of phones.", [({}, asked["to_say"])])
+    text.add("source_words_total", "counter", "What was said to the source of phones, by how that ended, and what it ordered.",
+             [({"end": how}, count) for how, count in sorted(asked["said"].items())])
+    text.add("held_octets", "gauge", "Octets of messages that are held for vectors.", [({}, asked["held_octets"])])
+    text.add("held_total", "counter", "Messages that were held for vectors, or were to be, by why they went on.",
+             [({"why": why}, count) for why, count in sorted(asked["held"].items())])
 
 
 def add_gateways(text, gateways):

@@ -1,9 +1,15 @@
-"""The MME, which is given lines and answers them: `mme play` as a process of its own, or in this process by the library."""
+"""The MME, which is given lines and answers them: `mme play` as a process of its own, or in this process by the library.
+
+The library's also takes further subscribers and vectors while it runs, by lines that begin with `#+ ` (adding.py). It answers each
+by the line itself, after `+ ` where it took it, and after `- ` and the refusal's number where it didn't.
+"""
+import binascii
 import collections
 import contextlib
 import fcntl
 import os
 import pathlib
+import re
 import select
 import signal
 import subprocess
@@ -16,6 +22,8 @@ from tools.fronting.faults import Failed, WRONG, told
 
 PIPE_OCTETS = 1 << 20
 MARK_ANSWER = b"refused %d" % runs.UNKNOWN_IMSI
+FURTHER, TAKEN, NOT_TAKEN = runs.FURTHER.encode(), b"+ ", b"- "  # how such a line and its answers begin
+ALL_FURTHER = re.compile(rb"(?:%s[^\n]*\n)+" % re.escape(FURTHER))  # such lines in a row
 TOP = pathlib.Path(__file__).resolve().parents[2]
 # Why there is no library: in a clone, and in a package.
 NOT_BUILT = "there is no library, which `./mme --library` builds (docs/LIBRARY.md)"
@@ -31,13 +39,19 @@ def nothing():
 class Mme:
     """What an MME is to the front: `give` and `finish` for what it is given, `taken` for when it took some of what waited, `hear`
     for a piece of its answers, `say` for its words, `end` for its end. It has ended once there is a status and it is silent; `pid`
-    is the process that it is in."""
+    is the process that it is in. `takes_further` says whether it is provisioned while it runs."""
+
+    takes_further = False
 
     def __init__(self, loop, hear, say):
         self.loop, self.hear, self.say = loop, hear, say
         self.end, self.taken = lambda status: None, nothing
         self.pid, self.status, self.is_silent = os.getpid(), None, False
         self.waiting, self.size, self.is_last = collections.deque(), 0, False  # what it is to be given, and its octets
+
+    def begin(self, head):
+        """Gives it what it is provisioned with."""
+        self.give(head.text.encode("latin-1"))
 
     def is_over(self):
         if self.is_silent and self.status is not None:
@@ -182,21 +196,42 @@ def library():
     return soizkadur
 
 
+def add_live(package, mme, word, imsi, *fields):
+    """Gives an MME of the library that runs a further subscriber or vector, by the words of its line."""
+    try:
+        octets = list(map(binascii.unhexlify, fields))
+    except ValueError:
+        raise package.Refused(package.Refusal.BAD_OCTETS) from None
+    if word == "vec" and len(octets) == 4:
+        mme.give_live(imsi, *octets)
+    elif word == "sub" and [len(field) for field in octets] == [4, 4, 4]:
+        mme.add_live(imsi, *[int.from_bytes(field, "big") for field in octets])
+    else:
+        raise package.Refused(package.Refusal.FIELD_COUNT)
+
+
 class LibraryMme(Mme):
     """An MME of the library. What it is given it plays in later turns of the loop, a while in each."""
+
+    takes_further = True
+    stays = False  # whether it is there to be saved once it has ended in order
+    call_octets = limits.LIBRARY_OCTETS  # of lines that one call plays
 
     def __init__(self, package, loop, hear, say):
         super().__init__(loop, hear, say)
         self.library, self.mme = package, package.Mme()
-        self.played, self.timer = 0, None  # how many lines were played, and what plays the next
+        self.place, self.played = 0, 0  # how far the first of what waits was played, and how many lines were
+        self.timer = None  # what plays the next
+        self.has_started = False  # whether it surely runs
 
     # To the library.
 
     def give(self, octets):
         """Gives it whole lines."""
         if self.status is None and not self.is_last:
-            self.waiting.extend(octets.split(b"\n")[:-1])
-            self.size += len(octets)
+            if octets:
+                self.waiting.append(octets)
+                self.size += len(octets)
             self.go_on()
 
     def finish(self):
@@ -210,18 +245,19 @@ class LibraryMme(Mme):
             self.timer = self.loop.after(0, self.play)
 
     def play(self):
-        """Plays lines for a while, and hands on their answers."""
+        """Plays lines for a while, some in each call of the library, and hands on their answers."""
         self.timer, answers, fault, end = None, [], None, time.monotonic() + limits.LIBRARY_SECONDS
         while self.waiting and fault is None and time.monotonic() < end:
-            line = self.waiting.popleft()
-            self.played += 1
-            self.size -= len(line) + 1
+            lines = self.next_lines()
             try:
-                answers += self.mme.answers(line)
+                answers.append(self.take(lines) if lines.startswith(FURTHER) else self.mme.play_text(lines))
+                self.played += lines.count(b"\n")
             except self.library.Refused as refused:
+                answers.append(refused.answers)
+                self.played += refused.line or 1
                 fault = refused.refusal
-        if answers:
-            self.hear("".join([answer + "\n" for answer in answers]).encode())
+        if any(answers):
+            self.hear(b"".join(answers))
         if self.status is not None:
             return
         if fault is not None:
@@ -231,6 +267,42 @@ class LibraryMme(Mme):
         elif self.is_last:
             self.has_ended(0)
         self.taken()
+
+    def next_lines(self):
+        """Takes what is played next: lines for further subscribers and vectors, or other lines, for one call of the library."""
+        text, at = self.waiting[0], self.place
+        end = text.rfind(b"\n", at, at + self.call_octets) + 1 or text.index(b"\n", at) + 1
+        if text.startswith(FURTHER, at):
+            end = ALL_FURTHER.match(text, at, end).end()
+        else:
+            end = text.find(b"\n" + FURTHER, at, end) + 1 or end
+        self.place = end
+        if end == len(text):
+            self.waiting.popleft()
+            self.place = 0
+        self.size -= end - at
+        return text[at:end]
+
+    def take(self, lines):
+        """Takes further subscribers and vectors; what is answered. Lack of memory is raised: played again, the line is taken."""
+        answers = []
+        for text in lines.decode("latin-1").removeprefix(runs.FURTHER).removesuffix("\n").split("\n" + runs.FURTHER):
+            try:
+                self.add(*text.split(" "))
+                answers.append("+ %s\n" % text)
+            except self.library.Refused as refused:
+                if refused.refusal in (self.library.Refusal.NO_MEMORY, self.library.Refusal.LOST):
+                    told = "".join(answers).encode("latin-1")
+                    raise self.library.Refused(refused.refusal, len(answers) + 1, answers=told) from None
+                answers.append("- %d %s\n" % (refused.refusal, text))
+        return "".join(answers).encode("latin-1")
+
+    def add(self, word, imsi="", *fields):
+        """Takes one by its words."""
+        if not self.has_started:
+            self.mme.start()
+            self.has_started = True
+        add_live(self.library, self.mme, word, imsi, *fields)
 
     # Its end.
 
@@ -249,7 +321,8 @@ class LibraryMme(Mme):
             self.status, self.is_silent = status, True
             if self.timer is not None:
                 self.timer.cancel()
-            self.mme.close()
+            if status or not self.stays:
+                self.mme.close()
             self.is_over()
 
     def kill(self, number=signal.SIGKILL):
@@ -260,3 +333,4 @@ class LibraryMme(Mme):
         """Ends it, and all that it was known by."""
         self.end = lambda status: None
         self.kill()
+        self.mme.close()

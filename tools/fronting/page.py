@@ -32,6 +32,7 @@ OF_TUNNEL = "IMSI", "Leads to", "TEID", "Packets from it", "Octets", "Packets to
 OF_GATEWAY = ("Address", "Network", "Contexts", "Stations", "Packets up", "Octets up", "Packets down", "Octets down", "Dropped",
               "Waiting")
 OF_STORE = "This front", "Epoch", "Its last turn", "The store's last turn", "Octets of turns", "Of the store", "Of its quota"
+LAST_SNAPSHOT, NO_SNAPSHOT = "The last snapshot is after turn %d, made %s UTC; %d turns came since.", "There is no snapshot."
 HELD = "The log can't be written: stations are refused and not heard until there is room."
 UNTOLD = "Reasons are missing here: %s. `tools/explain` finds them in the log."
 LATE = "%d lines are still to be read"
@@ -101,8 +102,11 @@ def of_store(front):
     """How far a front with its log in a store has come."""
     told = status.store(front)
     rows = [["leads" if told["leads"] else "stands by", told["epoch"], told["turn"], told["last_turn"], told["octets"],
-             told["store_octets"], told["store_quota"] or "not known"]]
-    return ["<h2>Log</h2>", table(OF_STORE, rows), '<p class="note">In the store at %s.</p>' % shown(str(front.settings.store))]
+             told["store_used"], told["store_quota"] or "not known"]]
+    last = front.saving.told().get("snapshot")
+    snapshot = LAST_SNAPSHOT % (last["turn"], last["made"], last["turns_since"]) if last else NO_SNAPSHOT
+    return ["<h2>Log</h2>", table(OF_STORE, rows),
+            '<p class="note">In the store at %s. %s</p>' % (shown(str(front.settings.store)), shown(snapshot))]
 
 
 def of_log(front, _):
@@ -134,7 +138,7 @@ def phone_row(front, slot):
     """A phone as the page lists it."""
     left = front.stock.left(slot)
     return [phone(front.head.imsis[slot]), front.head.address(slot), *front.census.of(slot).split(" "), place_of(front, slot),
-            marked("alarm", left) if left <= limits.FEW_VECTORS else left]
+            marked("alarm", left) if left <= front.stock.most_few else left]
 
 
 def tunnel_row(front, slot, gateways):

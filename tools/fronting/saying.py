@@ -20,7 +20,7 @@ class Voice:
     def __init__(self, as_json=False):
         self.as_json = as_json
         self.waiting, self.left_out = collections.deque(), 0
-        self.some, self.thread = threading.Event(), None
+        self.some, self.thread, self.is_pausing = threading.Event(), None, False
 
     def say(self, event, text, **fields):
         """Says what happened: the text, or in JSON the time, the event's name, the text and its fields."""
@@ -32,8 +32,7 @@ class Voice:
             self.say("left_out", "%d lines weren't read and are left out" % left_out, lines=left_out)
         self.waiting.append(self.line(event, text, fields))
         if self.thread is None:
-            self.thread = threading.Thread(target=self.write, daemon=True)
-            self.thread.start()
+            self.begin()
         self.some.set()
 
     def line(self, event, text, fields):
@@ -43,8 +42,8 @@ class Voice:
         return json.dumps({"time": now, "event": event, "text": text, **fields}) + "\n"
 
     def write(self):
-        """Writes what waits, for ever."""
-        while True:
+        """Writes what waits, until it is to pause."""
+        while not self.is_pausing:
             self.some.wait()
             self.some.clear()
             while self.waiting:
@@ -55,6 +54,23 @@ class Voice:
                 except OSError:
                     pass  # nobody can read it any more
                 self.waiting.popleft()
+
+    def pause(self):
+        """Ends the thread, where it has written all; whether there is none now."""
+        if self.thread is not None and not self.waiting:
+            self.is_pausing = True
+            self.some.set()
+            self.thread.join()
+            self.thread = None
+        return self.thread is None
+
+    def go_on(self):
+        """Goes on after a pause."""
+        self.is_pausing = False
+
+    def begin(self):
+        self.thread = threading.Thread(target=self.write, daemon=True)
+        self.thread.start()
 
     def close(self, seconds=limits.SENDING_SECONDS):
         """Waits for what was said to be written, not longer than this."""

@@ -14,7 +14,10 @@ from tools.fronting.syncing import folder_of, sync_path
 
 NUMBERED = re.compile(rb"^# segment (\d+), begun .*\n", re.MULTILINE)
 NUMBERED_LINE = re.compile(r"# segment \d+, begun ")  # the beginning of such a line
+SEGMENT = b"# segment "
 DIGITS = 6
+SNAPSHOT = ".snapshot."  # after a log's name, before a snapshot's number (snapshots.py)
+NEW = ".new"  # after a series' name, before the file has that
 PIECE = 1 << 17  # octets that are read at once
 
 
@@ -28,9 +31,22 @@ def line_of(number, note=""):
     return b"# segment %d, begun %s\n" % (number, (time.strftime("%F %T UTC", time.gmtime()) + note).encode())
 
 
+def own_line(octets):
+    """The line of its number in a segment, or nothing."""
+    at = 0 if octets[:len(SEGMENT)] == SEGMENT else octets.find(b"\n" + SEGMENT) + 1
+    while octets[at:at + len(SEGMENT)] == SEGMENT and not (found := NUMBERED.match(octets, at)):
+        at = octets.find(b"\n" + SEGMENT, at) + 1 or len(octets)
+    return found if octets[at:at + len(SEGMENT)] == SEGMENT else None
+
+
 def older_segments(path):
     """The segments before the one that is written, by number."""
-    prefix = os.path.basename(path) + ".segment."
+    return numbered(path, ".segment.")
+
+
+def numbered(path, mark):
+    """The files whose names are that of another, a mark and a number, by number."""
+    prefix = os.path.basename(path) + mark
     folder = pathlib.Path(path).parent
     found = [entry.name for entry in folder.iterdir() if entry.name.startswith(prefix)] if folder.is_dir() else []
     return {int(name[len(prefix):]): str(folder / name) for name in found if re.fullmatch("[0-9]+", name[len(prefix):])}
@@ -39,8 +55,12 @@ def older_segments(path):
 def whole_series(path):
     """The files of a series in their order, where the first of them is there."""
     older = sorted(older_segments(path).items())
-    if [number for number, _ in older] != list(range(1, len(older) + 1)):
-        raise runs.Fault("%s isn't whole: its earlier segments are %s" % (path, ", ".join(str(number) for number, _ in older)))
+    with open(path, "rb") as file:
+        found = NUMBERED.match(file.readline())  # a first segment begins with a head
+    numbers = [number for number, _ in older] + [int(found[1]) if found else 1]
+    if numbers != list(range(1, len(numbers) + 1)):
+        why = ": `tools/front play` plays it from a snapshot on" if numbered(path, SNAPSHOT) else ""
+        raise runs.Fault("%s isn't whole: its segments are %s%s" % (path, ", ".join(map(str, numbers)), why))
     return [name for _, name in older] + [path]
 
 
@@ -64,7 +84,7 @@ def open_new(path):
 def mend(path):
     """Ends what a crash broke off between the two names of a new segment: the new file gets its name, whatever it had since, or
     where it was lost with what it had, the one before goes on."""
-    older, new = older_segments(path), pathlib.Path(path + ".new")
+    older, new = older_segments(path), pathlib.Path(path + NEW)
     if not older or os.path.lexists(path) or not new.is_file():
         return
     begun = new.read_bytes()
@@ -98,7 +118,7 @@ class Series:
         series.file = os.open(path, os.O_RDWR | os.O_APPEND)
         series.size = os.fstat(series.file).st_size
         with mmap.mmap(series.file, 0, access=mmap.ACCESS_READ) as octets:
-            series.base = NUMBERED.search(octets).end()
+            series.base = own_line(octets).end()
         return series
 
     def begin(self, head=b""):
@@ -181,7 +201,7 @@ class Series:
 
     def roll(self):
         """Begins a new segment; where that can't be, nothing changes. Where it syncs, all before is on disk first."""
-        line, new, older = line_of(self.number + 1, self.note), self.path + ".new", name_of(self.path, self.number)
+        line, new, older = line_of(self.number + 1, self.note), self.path + NEW, name_of(self.path, self.number)
         if self.syncs:
             self.sync()
         pathlib.Path(new).unlink(missing_ok=True)
@@ -266,7 +286,7 @@ class Series:
         path = self.path if self.number == 1 else name_of(self.path, 1)
         whole = pathlib.Path(path).read_bytes()
         end = NUMBERED.search(whole).start()
-        new = path + ".new"
+        new = path + NEW
         pathlib.Path(new).unlink(missing_ok=True)
         file = open_new(new)
         try:
@@ -291,37 +311,6 @@ class Series:
         """Nothing was written to it but its head."""
         self.close()
         os.unlink(self.path)
-
-    def close(self):
-        os.close(self.file)
-
-
-class Reading:
-    """Reads what counts from its beginning to its end, while it grows; whole lines alone."""
-
-    def __init__(self, series):
-        self.series, self.number, self.rest = series, 1, b""
-        self.file = self.open()
-        octets = b""
-        while not (found := NUMBERED.search(octets)):
-            octets += os.read(self.file, 1 << 20)
-        self.rest = octets[found.end():]
-
-    def open(self):
-        path = self.series.path if self.number == self.series.number else name_of(self.series.path, self.number)
-        return os.open(path, os.O_RDONLY)
-
-    def piece(self):
-        """The next lines, or nothing where it has come to the end for now."""
-        octets = self.rest + os.read(self.file, PIECE)
-        if not octets and self.number < self.series.number:
-            os.close(self.file)
-            self.number += 1
-            self.file = self.open()
-            octets = os.read(self.file, PIECE)
-        end = octets.rfind(b"\n") + 1
-        self.rest = octets[end:]
-        return octets[:end]
 
     def close(self):
         os.close(self.file)

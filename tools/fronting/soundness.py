@@ -39,6 +39,8 @@ class Soundness:
     def look(self):
         """Says what is new."""
         for series, loss in zip(self.series(), LOSSES):
+            if self.front.saving.covers(series):
+                continue
             if series.path not in self.told and self.is_low(series):
                 self.told.add(series.path)
                 words = "%d of %d segments of %s are used: once all are, the oldest goes with each new one, and %s" % (

@@ -6,8 +6,8 @@ from tools.fronting import limits
 from tools.fronting.meters import OTHER, name_of
 
 PIECE = 500  # phones that are told of at a time
-ALARMS = "vectors", "what happened", "what counts", "log"  # what there are alarms of
-STORE = "store"  # and where the log is in a store
+ALARMS = "vectors", "what happened", "what counts", "log", "snapshots"  # what there are alarms of
+STORE, SOURCE = "store", "source"  # and where the log is in a store, and a source is asked
 
 
 def stations(front):
@@ -78,12 +78,23 @@ def store(front):
     last, turn = (journal.last, journal.committed) if journal else (standby.last, standby.number)
     return {"leads": journal is not None, "epoch": last.epoch, "turn": turn, "last_turn": last.number,
             "octets": journal.size if journal else standby.size, "answers": standby.fault is None,
-            "store_octets": standby.room.size, "store_quota": standby.room.quota}
+            "store_octets": standby.room.size, "store_used": standby.room.used, "store_quota": standby.room.quota}
+
+
+def source(front):
+    """The source of vectors, the requests to it by their ends, and what is held for it; nothing where there is none."""
+    asking, holding = front.asking, front.holding
+    if holding is None:
+        return None
+    return {"runs": asking.source.is_there, "starts": asking.source.starts, "ends": asking.source.ends, "wrong": asking.wrong,
+            "vectors": asking.vectors, "requests": dict(asking.ended), "under_way": len(asking.under_way),
+            "takes": asking.registering.takes, "said": dict(asking.registering.counted), "to_say": asking.registering.size,
+            "held": dict(holding.counted), "held_octets": sum(holding.octets.values())}
 
 
 def counters(front):
     """All that is counted."""
-    meters, exchange, in_store = front.meters, front.exchange, store(front)
+    meters, exchange, in_store, asked = front.meters, front.exchange, store(front), source(front)
     return {
         "seconds": round(time.time() - meters.begun, 1),
         "messages_in": named(meters.inward), "messages_out": named(meters.outward),
@@ -96,7 +107,8 @@ def counters(front):
         "phones_by_vectors_left": front.stock.by_left(), "fewest_vectors_left": front.stock.least(),
         "log": log(front), "log_octets": log_octets(front),
         "log_segments_gone": meters.gone, "memory_octets": memory(), "mme_memory_octets": memory(exchange.program.pid),
-        "resumed": front.resumed, "given": front.given, **({"store": in_store} if in_store else {}),
+        "resumed": front.resumed, "given": front.given, **front.saving.told(), **({STORE: in_store} if in_store else {}),
+        **({SOURCE: asked} if asked else {}),
     }
 
 
@@ -106,7 +118,11 @@ def alarms(front):
     if few := front.stock.few():
         found["vectors"] = "%d of %d phones %s %d vectors or fewer left." % (
             few, len(front.stock.rands), "has" if few == 1 else "have", limits.FEW_VECTORS)
+    if front.saving.why_not:
+        found["snapshots"] = "No snapshot can be made: %s." % front.saving.why_not
     for series in front.soundness.series():
+        if front.saving.covers(series):
+            continue
         if front.soundness.is_low(series):
             found[series.what] = "%d of %d segments of the log of %s are used." % (
                 front.soundness.used(series)[0], series.most, series.what)
@@ -114,6 +130,8 @@ def alarms(front):
             found[series.what] = "The log of %s isn't whole since the start." % series.what
     if front.standby is not None and front.standby.room.is_low:
         found[STORE] = "T%s." % front.standby.room.words()[1:]
+    if front.holding is not None and not front.asking.source.is_there:
+        found[SOURCE] = "The source of vectors doesn't run."
     if front.stands_by and front.standby.fault is not None:
         found["log"] = "The store doesn't answer: %s." % front.standby.fault.words
     elif front.exchange.journal is None and front.standby is None:

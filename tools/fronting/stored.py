@@ -2,7 +2,7 @@
 
     last        EPOCH NUMBER ID: the last turn, in which epoch it came, and the id that the epoch's leader drew for it
     turn/N      the turn of this number, from 1 on, in 16 hex digits: lines of a trace
-    given/N     the lines sub and vec that were given with turn N
+    given/N     the lines sub and vec that a front with a program gave with turn N, which one of today reads and doesn't write
     head        the version, how many lines of provisioning the log was begun with, their digest, and an id of the log
 
 Whoever writes a turn compares `last` with what it knows, in one transaction that also writes the new `last`. To take the lead is
@@ -21,6 +21,17 @@ Why nothing is answered twice, or under a count that was used:
   - The answers that a standby plays go to nobody. One that led before may still send those that it owes to turns of the chain,
     which nobody else sends: their counts are spent in the chain.
 Nothing here has a clock: ticks and silence say when somebody tries to lead, and not what stands.
+
+Of the first turns there may be a snapshot in their place (shelf.py). Why a front that begins there is as one that played them all:
+  - A snapshot after turn N is of a front that had played the chain up to N, and nothing else, when it was forked. What is restored
+    is what was saved, which is proved, but for vectors that are spent. So with the turns after N it is the same MME.
+  - It says of itself which log it is of, by the id of `head`, and what `last` was at turn N, which no other turn ever is; and its
+    octets have a digest, and with a key a seal. Where one of these isn't so, it isn't taken. Another version may take it too, but
+    plays no turns since: it begins where there are none, and who leads then writes its own version into `head`.
+  - Turns go only once two snapshots stand which whoever removes them could take, or made: those up to the older one's, in a
+    transaction that compares the names of both. So the older one with all turns after it is there, whatever becomes of the newer.
+  - The vectors that the turns used stand beside the snapshots before the turns go, and whoever begins there notes them in LOG.used.
+Each question is of the store as it is, so what the store has forgotten of its past is told to nobody.
 """
 import collections
 import base64
@@ -39,9 +50,8 @@ from tools.fronting.faults import BABBLES, Failed, LOG_FAILS, NOT_YET, Unheld, W
 from tools.fronting.journal import TIME, clock, octets_of
 from tools.fronting.turns import Turns
 
-HEAD = re.compile(rb"(\S+) (\d+) ([0-9a-f]+) [0-9a-f]+")
+HEAD = re.compile(rb"(\S+) ((\d+) ([0-9a-f]+) ([0-9a-f]+))")
 TOO_MUCH = "larger than max"  # what is said of an answer with more octets than a member sends
-GIVEN = "# given: "  # how the line begins at which further lines of provisioning count
 
 
 class Last(typing.NamedTuple):
@@ -96,15 +106,15 @@ class Scheme:
         return json.dumps({"compare": [self.is_last(before)], "success": [self.put(self.key("last"), after.octets()), *puts],
                            "failure": [self.range_of("last")]}).encode()
 
-    def turn(self, number, octets, given=b""):
+    def turn(self, number, octets):
         """What is put with a turn."""
-        puts = [self.put(self.numbered("turn", number), octets)]
-        return puts + [self.put(self.numbered("given", number), given)] if given else puts
+        return [self.put(self.numbered("turn", number), octets)]
 
     def news(self, number, given, most):
-        """Asks, all as of one moment, for the head, the last turn, and what comes after these numbers of turns and of gives."""
+        """Asks, all as of one moment, for the head, the last turn, what comes after these numbers of turns and of gives, and which
+        snapshots there are."""
         return json.dumps({"success": [self.range_of("head"), self.range_of("last"), self.range_from("given", given + 1, 0),
-                                       self.range_from("turn", number + 1, most)]}).encode()
+                                       self.range_from("turn", number + 1, most), self.range_of("snapshots")]}).encode()
 
     def which_is_last(self):
         """Asks for the last turn."""
@@ -206,15 +216,13 @@ class Step:
 class StoreJournal(Turns):
     """The log of the front that leads, from its first turn on."""
 
-    hold_seconds = 1  # and not so long that another front takes it for silence
-
     def __init__(self, etcd, scheme, last, head, form):
         super().__init__("the store")
         self.etcd, self.scheme, self.last, self.head, self.form = etcd, scheme, last, head, form
         self.turn = self.committed = last.number
         self.step, self.since = None, 0.0  # of the turn under way, and since when it is
         self.pieces = collections.deque()  # the turns that follow it
-        self.given, self.size = b"", 0  # lines of provisioning that the next turn gives; octets of all turns
+        self.size, self.time = 0, ""  # octets of all turns; the time of day of the last
 
     @property
     def is_under_way(self):
@@ -223,7 +231,7 @@ class StoreJournal(Turns):
 
     def add(self, batches):
         """Sends what the MME is about to be given: a turn, or several where it is too much for one."""
-        now = clock()
+        now = self.time = clock()
         self.pieces.extend(pieces_of(b"".join(batch.text() for batch in batches), octets_of([TIME % now])))
         self.turn += len(self.pieces)
         for batch in batches:
@@ -233,9 +241,9 @@ class StoreJournal(Turns):
     def send(self):
         """Sends the next turn."""
         text, after = self.pieces.popleft(), self.last._replace(number=self.committed + 1)
-        given, self.given, self.size = self.given, b"", self.size + len(text)
+        self.size += len(text)
         self.since = time.monotonic()
-        self.step = Step(self.etcd, self.scheme, self.last, after, self.scheme.turn(after.number, text, given), self.has_come)
+        self.step = Step(self.etcd, self.scheme, self.last, after, self.scheme.turn(after.number, text), self.has_come)
 
     def has_come(self, stands):
         """The turn stands, or another front leads."""
@@ -270,61 +278,12 @@ class StoreJournal(Turns):
         """What is under way isn't waited for."""
         self.is_broken = True
 
-    # Giving.
-
-    def reading(self, go_on):
-        """Reads what counts from its beginning; `go_on` is called once there is more."""
-        return Reading(self, go_on)
-
-    def lengthen(self, head, form):
-        """The next turn gives what this head has beyond the one before; the line that has to be among its lines."""
-        more = head.facts[len(self.head.facts):]
-        self.given, self.head, self.form = octets_of(more), head, form
-        return GIVEN + runs.counted(len(more), "line")
-
     def close(self):
         self.tell = lambda fault=None: None
         self.is_broken = True
         self.etcd.close()
         if self.syncer is not None:
             self.syncer.close()
-
-
-class Reading:
-    """Reads the turns of a log from the first on, while it grows."""
-
-    def __init__(self, journal, go_on):
-        self.journal, self.go_on, self.number, self.octets = journal, go_on, 0, b""
-        self.most = limits.TURNS_GIVEN
-        self.etcd, self.is_asking = Etcd(journal.etcd.loop, journal.etcd.access, journal.etcd.addresses), False
-
-    def piece(self):
-        """The next turns: b"" where there is none, and None where they are on their way."""
-        octets, self.octets = self.octets, b""
-        if octets or self.number == self.journal.committed and not self.is_asking:
-            return octets
-        self.ask()
-        return None
-
-    def ask(self):
-        if not self.is_asking and self.etcd is not None:
-            self.is_asking = True
-            self.etcd.call(TXN, self.journal.scheme.news(self.number, self.number, self.most), self.is_told,
-                           limits.STORE_PAGE_SECONDS)
-
-    def is_told(self, found, fault):
-        self.is_asking = False
-        if fault is not None:
-            self.most = fewer(self.most, fault)
-            self.journal.etcd.loop.after(limits.STORE_REST, self.ask)
-            return
-        turns = found["responses"][-1]["response_range"]
-        self.number, self.octets = max([self.number, *numbers_of(turns)]), b"".join(values_of(turns))
-        self.go_on()
-
-    def close(self):
-        etcd, self.etcd = self.etcd, None
-        etcd.close()
 
 
 # --- What a log begins with ---
@@ -345,15 +304,35 @@ def head_of(facts):
     return ("%s %d %s %s" % (versions.number(), len(facts), digest_of(facts), drawn())).encode()
 
 
-def facts_of(head, facts, subscribers):
-    """The lines of provisioning that a log was begun with, among those of this front; a fault where it hasn't them."""
+def read_head(head):
+    """The version that a head has, all else, and of that how many lines, their digest and the log's id."""
     found = HEAD.fullmatch(head)
     if not found:
         raise Failed("the store's log is damaged: it doesn't say what it was begun with", WRONG)
-    version, count, digest = (part.decode() for part in found.groups())
-    if version != versions.number():
+    return [part.decode() for part in found.groups()]
+
+
+def id_of(head):
+    """The id of the log, whatever version goes on with it; nothing of what is no head."""
+    found = HEAD.fullmatch(head)
+    return found and found[5].decode()
+
+
+def head_by_this(head):
+    """The head of the same log, which this version goes on with."""
+    return ("%s %s" % (versions.number(), read_head(head)[1])).encode()
+
+
+def check_version(head, status=WRONG):
+    """Refuses turns of a log that another version wrote."""
+    if head and head != head_by_this(head):
         raise Failed("the store's log is of version %s, and this is %s: another version may play it otherwise"
-                     % (version, versions.number()), WRONG)
+                     % (read_head(head)[0], versions.number()), status)
+
+
+def facts_of(head, facts, subscribers):
+    """The lines of provisioning that a log was begun with, among those of this front; a fault where it hasn't them."""
+    _, _, count, digest, _ = read_head(head)
     if digest_of(facts[:int(count)]) != digest:
         raise Failed("the store's log begins with other lines than %s" % subscribers, WRONG)
     return facts[:int(count)]

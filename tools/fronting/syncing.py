@@ -25,8 +25,18 @@ class Syncer:
         self.jobs, self.done = queue.SimpleQueue(), collections.deque()
         self.wake = os.eventfd(0, os.EFD_NONBLOCK | os.EFD_CLOEXEC)
         loop.watch(self.wake, select.EPOLLIN, lambda events: self.look())
+        self.go_on()
+
+    def go_on(self):
+        """Has a thread do the jobs."""
         self.thread = threading.Thread(target=self.work, daemon=True)
         self.thread.start()
+
+    def pause(self, seconds=None):
+        """Ends the thread, which at once does where it has no job, and waits for that, not longer than this; whether it has."""
+        self.jobs.put(())
+        self.thread.join(seconds)
+        return not self.thread.is_alive()
 
     def sync(self, acts, then):
         """Does these acts, each a call with a file that stays open; `then` is called in the loop with the first fault, or None."""
@@ -55,9 +65,7 @@ class Syncer:
     def close(self):
         """Ends the thread, unless a disk keeps it; nothing more is told."""
         self.loop.unwatch(self.wake)
-        self.jobs.put(())
-        self.thread.join(limits.SENDING_SECONDS)
-        if not self.thread.is_alive():
+        if self.pause(limits.SENDING_SECONDS):
             os.close(self.wake)
 
 

@@ -4,6 +4,7 @@ It costs the stations next to nothing: it reads a few lines at a time, and only 
 read so, or than it may keep, it ends, and says why.
 """
 import collections
+import functools
 import time
 import typing
 
@@ -17,9 +18,10 @@ from tools.fronting import limits
 TOO_FAST = "messages came faster than their reasons could be found"
 TOO_MANY = "they are found for %d subscribers with %d vectors at the most" % (limits.MOST_TOLD_OF, limits.MOST_TOLD_BY)
 UNREADABLE = "what the MME was given can't be read on"
+REFUSED = "the MME refused a line of provisioning that was given"
 UNKNOWN_LINE = "?, before this start or in no log"
 END = object()  # what comes after the last step
-LINES = 20  # of a head that are read in a step
+OF_FURTHER = runs.FURTHER + "sub ", runs.FURTHER + "vec "
 ELSEWHERE = Told(None, 0, [], [])  # puts what is told into a sentence
 
 
@@ -36,23 +38,16 @@ class Reason(typing.NamedTuple):
 class Line:
     """The number of a line of the log, as reasons have it: in words where that isn't known."""
 
-    __slots__ = ("teller", "number")
+    __slots__ = ("number",)
 
-    def __init__(self, teller, number):
-        self.teller, self.number = teller, number
+    def __init__(self, number):
+        self.number = number
 
     def __int__(self):
-        journal = self.teller.front.exchange.journal
-        return (self.number or 0) + (journal.lines_given if journal is not None else 0)
+        return self.number or 0
 
     def __str__(self):
         return UNKNOWN_LINE if self.number is None else "%d" % self
-
-
-def is_too_long(head):
-    """Whether a head has more than the model is for."""
-    count = len(head.imsis)
-    return count > limits.MOST_TOLD_OF or len(head.facts) - count - 1 > limits.MOST_TOLD_BY
 
 
 def cut(fact):
@@ -69,18 +64,25 @@ class Teller:
         self.front, self.world, self.why_not = front, None, None
         self.waiting, self.lines, self.octets = collections.deque(), 0, 0  # what is still to be read, and how much that is
         self.places, self.events, self.is_anew, self.timer = collections.Counter(), 0, False, None
+        self.room = 0, 0  # for further subscribers, and vectors
         self.of_messages, self.others = {}, collections.deque(maxlen=limits.MOST_REASONS)
 
     def begin(self, head):
-        """The model of a head; none where that has too much."""
-        if is_too_long(head):
+        """The model of a head."""
+        count, lines = len(head.imsis), [line.encode("latin-1") for line in head.facts]
+        self.begin_with(functools.partial(World, lines), count, len(lines) - count - 1, UNREADABLE)
+
+    def begin_with(self, make, subscribers, vectors, why_not):
+        """The model that is made, which has so many subscribers and vectors; none where these are too many, or it can't be made."""
+        self.room = limits.MOST_TOLD_OF - subscribers, limits.MOST_TOLD_BY - vectors
+        if min(self.room) < 0:
             self.end(TOO_MANY)
             return
         try:
-            self.world = World([line.encode("latin-1") for line in head.facts])
+            self.world, self.why_not = make(), None
             self.front.exchange.follow = self.take
-        except (runs.Fault, TypeError):  # a head that the MME won't take
-            self.end(UNREADABLE)
+        except (runs.Fault, TypeError):  # a head that the MME won't take, or a snapshot of another form
+            self.end(why_not)
 
     def end(self, why):
         """No more is told; what was told stays."""
@@ -88,28 +90,29 @@ class Teller:
         self.waiting.clear()
         self.lines = self.octets = 0
 
+    def refuse(self):
+        """The MME refused a further line of provisioning, which the model took or is to take."""
+        if self.world is not None:
+            self.end(REFUSED)
+
     # What the MME is given.
 
-    def lengthen(self, before, head):
-        """The MME has a longer head from now on."""
-        if self.world is not None and is_too_long(head):
-            self.end(TOO_MANY)
-        elif self.world is not None:
-            more = [line.encode("latin-1") for line in head.facts[len(before.facts):]]
-            self.put(self.lengthened(more), len(more), sum(map(len, more)))
-
-    def lengthened(self, more):
-        for at in range(0, len(more), LINES):
-            yield self.world.lengthen(more[at:at + LINES])
+    def has_room(self, *counts):
+        """Whether the model goes on with so many further subscribers, and vectors, among lines that come."""
+        if self.world is not None:
+            self.room = tuple(room - count for room, count in zip(self.room, counts))
+            if min(self.room) < 0:
+                self.end(TOO_MANY)
+        return self.world is not None
 
     def take(self, batch):
         """A batch of lines."""
-        if self.world is not None:
+        if self.has_room(*(sum(line.startswith(word) for line in batch.lines) for word in OF_FURTHER)):
             self.put(self.read_batch(batch, self.front.meters.now), len(batch.lines), batch.octets)
 
     def take_before(self, octets):
         """Lines that stood in the log when the run began."""
-        if self.world is not None:
+        if self.has_room(*(octets.count(word.encode()) for word in OF_FURTHER)):
             self.put(self.read_before(octets), octets.count(b"\n"), len(octets))
 
     def put(self, reading, lines, octets):
@@ -156,10 +159,12 @@ class Teller:
     def read(self, text, number, when):
         """A line: at an event the reasons that the model tells are noted, where it happens now."""
         word, *fields = text.split(" ")
+        if text.startswith(runs.FURTHER):
+            self.world.lengthen([text[len(runs.FURTHER):].encode("latin-1")])
         if not text or text.startswith("#") or word == "show":
             self.is_anew = self.is_anew or text.startswith(runs.BEGUN_ANEW)
             return
-        event = runs.event_of(Line(self, number), word, fields)._replace(is_anew=self.is_anew)
+        event = runs.event_of(Line(number), word, fields)._replace(is_anew=self.is_anew)
         self.is_anew, self.events = False, self.events + 1
         _, _, tellings = self.world.take(event)
         if when is not None:

@@ -9,13 +9,11 @@ class Turns:
     """A journal, of files (journal.py) or in a store (stored.py).
 
     To the exchange it is `add`, which takes a turn where it `takes` one; `keeps`, by which it says what is committed; `tell`, which
-    it calls when more is, or with a fault; `settle`, `care`, `end` and `close`. To one who gives it is `is_whole`, `reading` and
-    `lengthen`. Objects in `beside` keep what is to stand on disk before an answer goes out. Such a one is true while it has
+    it calls when more is, or with a fault; `settle`, `care`, `end` and `close`. Objects in `beside` keep what is to stand on disk before an answer goes out. Such a one is true while it has
     something to be written; `write` writes that to its `file`."""
 
-    series, octets, lines_given = (), 0, 0  # where nothing is written in segments, or settled later
-    is_cut, is_whole = False, True  # whether less stands there than was written, and whether all does since the start
-    hold_seconds = limits.HOLD_SECONDS  # that no turn may come while something is given
+    series, octets = (), 0  # where nothing is written in segments, or settled later
+    is_cut = False  # whether less stands there than was written
 
     def __init__(self, path):
         self.path, self.syncer, self.tell = path, None, lambda fault=None: None

@@ -4,6 +4,8 @@ A vector is good for one challenge. Whoever recorded what a phone said could say
 second time, and would be let in without the phone's key. So the line is written before the challenge goes out; the file stays where
 it is while logs come and go; and a run that doesn't go on after its log begins without these vectors.
 """
+import hashlib
+import itertools
 import os
 import re
 
@@ -30,8 +32,13 @@ def vector_of(line):
     return " ".join(fields[:2]).lower().encode("latin-1") if word == "vec" else None
 
 
+def digest_of(entries):
+    """What further entries are added to, of the digest of these."""
+    return hashlib.sha256(b"".join(entry + b"\n" for entry in entries))
+
+
 class UsedVectors:
-    """The vectors that were used, each by its IMSI and its RAND."""
+    """The vectors that were used, each by its IMSI and its RAND: `known` has them as its keys, in the order of the file."""
 
     def __init__(self, path):
         self.path = path
@@ -43,6 +50,7 @@ class UsedVectors:
             raise Failed("%s: %s" % (path, told(fault)), WRONG) from None
         try:
             self.known = self.read()
+            self.digest = digest_of(self.known)
         except BaseException:
             os.close(self.file)
             raise
@@ -67,7 +75,7 @@ class UsedVectors:
             os.ftruncate(self.file, self.size)
         except OSError as fault:
             raise Failed("%s: %s" % (self.path, told(fault)), WRONG) from None
-        return set(lines)
+        return dict.fromkeys(lines)
 
     def note(self, imsi, rand):
         """A challenge with this RAND is to go out: whether its vector's line is still to be written."""
@@ -83,6 +91,7 @@ class UsedVectors:
             self.size += add_whole(self.file, b"".join(entry + b"\n" for entry in self.noted), self.size)
             if self.syncs:
                 self.sync()
+            self.digest.update(b"".join(entry + b"\n" for entry in self.noted))
             self.known.update(self.noted)
             self.noted.clear()
 
@@ -91,10 +100,15 @@ class UsedVectors:
         os.fsync(self.file)
 
     def add(self, lines):
-        """Writes the vectors among lines of provisioning as used, on disk too."""
-        for entry in filter(None, map(vector_of, lines)):
-            if entry not in self.known:
-                self.noted[entry] = None
+        """Writes the vectors among lines of provisioning as used, on disk too; whether each could be read."""
+        entries = list(filter(None, map(vector_of, lines)))
+        whole = [entry for entry in entries if LINE.fullmatch(entry)]
+        self.learn(whole)
+        return len(whole) == len(entries) and not any("\0" in line for line in lines)
+
+    def learn(self, entries):
+        """Has it be on disk that these vectors were used, which another front's challenges did."""
+        self.noted.update(dict.fromkeys(entry for entry in entries if entry not in self.known))
         try:
             self.write()
             self.sync()
@@ -105,19 +119,30 @@ class UsedVectors:
         """What was noted doesn't go out."""
         self.noted.clear()
 
-    def among(self, lines):
-        """The vectors among lines of provisioning that were used, each as its line here."""
-        return {vector_of(line) for line in lines} & self.known
+    def among(self, entries):
+        """Those of some vectors that were used, each as its line here."""
+        return self.known.keys() & entries
+
+    def told(self):
+        """How many there are, and their digest."""
+        return {"vectors": len(self.known), "digest": self.digest.hexdigest()}
+
+    def begins_with(self, told):
+        """Whether these were the first of them."""
+        first = digest_of(itertools.islice(self.known, told["vectors"]))
+        return len(self.known) >= told["vectors"] and first.hexdigest() == told["digest"]
 
     def begun(self, head):
         """A head to begin a run with: without the vectors that were used."""
         return Head([line for line in head.lines if vector_of(line) not in self.known])
 
-    def after(self, stands, given):
-        """The head of a file, for a run that goes on after a log with the head that stands: without the vectors that were used,
-        but for those that the log began with."""
-        left, place, standing = [], 0, stands.facts
-        for line in given.facts:
+    def after(self, standing, given):
+        """The head of a file, for a run that goes on after a log with the lines that stand: without the vectors that were used,
+        but for those of the log."""
+        facts = given.facts
+        left = facts[:len(standing)] if facts[:len(standing)] == standing else []
+        place = len(left)
+        for line in facts[place:]:
             if place < len(standing) and standing[place] in (line, without_keys(line)):
                 place += 1
             elif vector_of(line) in self.known:
@@ -125,11 +150,10 @@ class UsedVectors:
             left.append(line)
         return Head(left)
 
-    def check_given(self, lines):
-        """Refuses a vector that was used, among lines to be given."""
-        for number, line in enumerate(lines, 1):
-            if vector_of(line) in self.known:
-                raise runs.Fault("line %d: its vector was used already: its RAND stands in %s" % (number, self.path))
+    def check_vector(self, imsi, rand):
+        """Refuses a vector that was used, by its IMSI and its RAND in small letters."""
+        if self.known and ("%s %s" % (imsi, rand)).encode() in self.known:
+            raise runs.Fault("its vector was used already: its RAND stands in %s" % self.path)
 
     def look_after(self):
         """Writes a new file where it was moved or cut; whether it was."""
@@ -143,7 +167,7 @@ class UsedVectors:
         new = self.path + ".new"
         file = os.open(new, os.O_RDWR | os.O_CREAT | os.O_TRUNC | os.O_APPEND, 0o600)
         try:
-            size = add_whole(file, b"".join(entry + b"\n" for entry in sorted(self.known)), 0)
+            size = add_whole(file, b"".join(entry + b"\n" for entry in self.known), 0)
             os.fsync(file)
             os.replace(new, self.path)
             sync_path(folder_of(self.path))

@@ -13,7 +13,19 @@ class Watchdog:
 
     def __init__(self, voice):
         self.voice, self.seconds, self.over = voice, 0, threading.Event()
-        threading.Thread(target=self.watch, daemon=True).start()
+        self.go_on()
+
+    def go_on(self):
+        """Begins to watch, perhaps after a pause."""
+        self.over.clear()
+        self.thread = threading.Thread(target=self.watch, daemon=True)
+        self.thread.start()
+
+    def pause(self):
+        """Ends the thread; whether there is none now."""
+        self.over.set()
+        self.thread.join()
+        return True
 
     def look(self):
         """The loop turns."""

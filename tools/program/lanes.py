@@ -70,6 +70,13 @@ class Sharing:
     def ready(self):
         return [it for it in self.left if all(below in self.given for below in self.tasks[it][0])]
 
+    def awaited(self):
+        """What the next proofs of the chains wait for, where none of the chains can begin or runs: it is then of the chains too."""
+        if self.is_under_way() or self.chain.intersection(self.ready()):
+            return set()
+        missing = [[it for it in self.tasks[key][0] if it not in self.given] for key in self.left if key in self.chain]
+        return {it for waits in missing if not self.chain.intersection(waits) for it in waits}
+
     def is_idle_task(self, key):
         """Whether there is nothing to do: the tests of a crate without tests."""
         return key[1] == "tests" and not self.tasks[key][1]
@@ -110,6 +117,7 @@ class Sharing:
     def begun(self):
         """Yields each task that begins now, and its processes."""
         is_short = False
+        self.chain |= self.awaited()
         for key in self.ready():
             if is_short and key[1] in FILLS:
                 # (a proof waits for memory, which edits would take again and again)

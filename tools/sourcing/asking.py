@@ -1,5 +1,7 @@
 """What a source is asked and what it answers, a line each (docs/LAB.md, "Sources of vectors"). Nobody's line ends it.
 
+A source that is to be told where phones are says so in its first line, `takes registered gone`.
+
 `vectors IMSI COUNT MCC MNC` and `vectors IMSI COUNT MCC MNC RAND AUTS` ask for vectors, `registered IMSI` and `gone IMSI` say where
 a phone is. The answers are as many lines `vec IMSI RAND AUTN XRES KASME`, `registered IMSI`, `gone IMSI`; or `unknown IMSI`, or
 `later IMSI`. Those of one IMSI come in the order of its requests."""
@@ -8,10 +10,13 @@ import collections
 import os
 import select
 
+from tools.fronting import lines
+
 from tools.sourcing.milenage import AUTS_OCTETS, BLOCK
 from tools.sourcing.words import Fault, digits_of, field, hex_of, number_of, shown
 
 VECTORS, REGISTERED, GONE, UNKNOWN, LATER, CANCEL, RESET = "vectors", "registered", "gone", "unknown", "later", "cancel", "reset"
+TAKES = "takes %s %s\n" % (REGISTERED, GONE)  # the first line of a source that is to be told where phones are
 MOST_VECTORS = 64  # of a request: as many as the MME takes of a subscriber
 LONGEST = 200  # octets of a request
 PIECE = 1 << 16  # octets of a read
@@ -69,24 +74,11 @@ def request_of(line):
     return Request(word, imsi, **read)
 
 
-class Lines:
-    """Takes lines out of octets as they come; one that is too long is None."""
+class Lines(lines.Lines):
+    """Takes requests out of octets as they come."""
 
     def __init__(self):
-        self.rest, self.is_too_long = b"", False
-
-    def take(self, octets):
-        """The lines that have come to their end."""
-        *lines, self.rest = (self.rest + octets).split(b"\n")
-        if lines and self.is_too_long:
-            lines[0], self.is_too_long = None, False
-        if len(self.rest) > LONGEST:
-            self.rest, self.is_too_long = b"", True
-        return [line if line is None or len(line) <= LONGEST else None for line in lines]
-
-    def last(self):
-        """The last line, where it has no end."""
-        return self.take(b"\n") if self.rest or self.is_too_long else []
+        super().__init__(LONGEST)
 
 
 def read_line(line):

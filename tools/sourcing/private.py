@@ -4,14 +4,21 @@ import os
 from tools.sourcing.words import Fault
 
 OF_OTHERS = 0o077  # the bits of a mode that let others in
+OF_CREDENTIAL = 0o037  # the same of a service's credential, whose group's bits may be those of its user alone (systemd.exec(5))
 MODE = 0o600
 ROOT = 0  # root's number
+
+
+def is_credential(path):
+    """Whether a file is one of the credentials of the service that this runs in, whose folder is for its user alone."""
+    folder = os.environ.get("CREDENTIALS_DIRECTORY")
+    return bool(folder) and os.path.dirname(os.path.realpath(path)) == os.path.realpath(folder)
 
 
 def check(file, path):
     """Refuses a file that others than its owner may open, or that is somebody else's."""
     found = os.fstat(file)
-    if found.st_mode & OF_OTHERS:
+    if found.st_mode & (OF_CREDENTIAL if is_credential(path) else OF_OTHERS):
         raise Fault("%s: others than its owner may open it (mode %03o): chmod %03o makes it its owner's alone" % (
             path, found.st_mode & 0o777, MODE))
     if found.st_uid not in (ROOT, os.geteuid()):

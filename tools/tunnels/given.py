@@ -3,14 +3,14 @@ import contextlib
 import fcntl
 import ipaddress
 import os
-import secrets
 
 from tools import runs
+
+from tools.fronting.pool import free_addresses, free_teid, line_of
 
 from tools.tunnels import phones
 
 MOST = 1 << 15  # subscribers of an MME
-LEAST_HOSTS = 4  # addresses of a network of which some are hosts'
 
 
 class Fault(runs.Fault):
@@ -53,23 +53,6 @@ def read_given(text, name):
     return found
 
 
-def free_addresses(network, taken):
-    """The addresses of hosts of a network that nobody has, from the lowest on."""
-    last = network.num_addresses - 1
-    for place in range(1, last) if network.num_addresses >= LEAST_HOSTS else range(last + 1):
-        address = str(network.network_address + place)
-        if address not in taken:
-            yield address
-
-
-def free_teid(taken):
-    """A random TEID that nobody has."""
-    while (teid := secrets.randbits(32)) == 0 or teid in taken:
-        pass
-    taken.add(teid)
-    return teid
-
-
 def hand_out(imsis, given, network):
     """What each subscriber has, of what was handed out before and of what is free; those who were given something keep it."""
     addresses, teids = ({pair[at] for pair in given.values()} for at in (0, 1))
@@ -84,11 +67,6 @@ def hand_out(imsis, given, network):
                 raise Fault("%s has no address left for %s" % (network, imsi))
             found[imsi] = address, free_teid(teids)
     return found
-
-
-def line_of(imsi, address, gateway, teid):
-    places = (ipaddress.IPv4Address(text).packed.hex() for text in (address, gateway))
-    return "sub %s %s %s %08x\n" % (imsi, *places, teid)
 
 
 def write(path, text):
@@ -122,5 +100,5 @@ def lines_for(imsis, path, gateway, network):
         given = read_given(text, path)
         found = hand_out(imsis, given, network)
         if found != given:
-            write(path, "".join(line_of(imsi, address, gateway, teid) for imsi, (address, teid) in found.items()))
-    return "".join(line_of(imsi, found[imsi][0], gateway, found[imsi][1]) for imsi in imsis)
+            write(path, "".join(line_of(imsi, address, gateway, teid) + "\n" for imsi, (address, teid) in found.items()))
+    return "".join(line_of(imsi, found[imsi][0], gateway, found[imsi][1]) + "\n" for imsi in imsis)
