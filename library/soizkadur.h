@@ -106,8 +106,14 @@ enum soizkadur_refusal {
     SOIZKADUR_NO_MME = 21,    /* the handle is empty, or its MME isn't started */
     SOIZKADUR_IN_USE = 22,    /* the handle isn't empty; it keeps what it holds */
     SOIZKADUR_NO_OUTPUT = 23, /* no reply or no message has this place */
-    SOIZKADUR_NO_ROOM = 24,   /* the buffer is too small for the message */
+    SOIZKADUR_NO_ROOM = 24,   /* the buffer is too small for the message or the part */
     SOIZKADUR_LOST = 25,      /* memory ran out as the MME was started; nothing is left of what was provisioned */
+
+    /* of a snapshot */
+    SOIZKADUR_NOT_SAVED = 26,     /* a part has a state that a snapshot can't have */
+    SOIZKADUR_OTHER_VERSION = 27, /* a snapshot of another version */
+    SOIZKADUR_NO_SNAPSHOT = 28,   /* the octets are no snapshot */
+    SOIZKADUR_TOO_MUCH_WORK = 29, /* more next hops would be derived than the call allows */
 
     /* octets that are no S1AP message (TS 36.413): 30 plus the number of the first fault from the left. No call says at which
      * octet or in which element it is: build a message that you write by hand element by element */
@@ -173,6 +179,30 @@ uint32_t soizkadur_new(soizkadur_mme *mme, const uint8_t *lines, size_t length, 
  * is never lost. NO_MEMORY may come in place of another refusal. */
 uint32_t soizkadur_line(soizkadur_mme *mme, const uint8_t *line, size_t length);
 
+/* How far the lines of a text were played (soizkadur_play). */
+typedef struct soizkadur_played {
+    uint64_t lines;  /* how many were played whole */
+    uint32_t taken;  /* of the next one, at which it stopped: how many of its events were taken and answered; 0 but for `tick N` */
+    uint32_t unsaid; /* 1 if one more of its events was taken, which isn't answered: its messages are the replies; otherwise 0 */
+    size_t length;   /* the octets of all answers */
+} soizkadur_played;
+
+/* Plays the lines of a text, each of which ends with LF, and writes their answers to the start of the buffer, the rest of which
+ * stays: what `mme play` prints of these lines, from the MME as it is (README.md, "A trace"). What comes after the last LF is no
+ * line and isn't taken: it may be the front of one, which is handed in once all of it has come.
+ * The lines are those of soizkadur_line, and the handle may be empty; it isn't after the call, unless there is no memory for it
+ * (NO_MEMORY), and then nothing is written. An event that is refused is answered by `refused N`, and `show IMSI` by the states.
+ * Refused, if a line is: `lines` lines before it are played, and the answers to be sent are written; it is
+ * - UNKNOWN_WORD to PROVISION, and the line is wrong. Nothing of it is done, but that `show IMSI` may have started the MME;
+ * - NO_MEMORY; or NO_ROOM, if the answers of an event, or the states, are longer than the rest of the buffer. Of a line `tick N`,
+ *   `taken` seconds have passed and are answered. The next event, of any other line its only one, wasn't taken if `unsaid` is 0,
+ *   but the MME may have been started for it. If `unsaid` is 1, it was, and none of its messages is answered: soizkadur_count of
+ *   reply 0 and soizkadur_out have them;
+ * - LOST, as in soizkadur_line.
+ * A message is answered in at most 32856 octets, a refused event and `show IMSI` in at most 80. */
+uint32_t soizkadur_play(soizkadur_mme *mme, const uint8_t *lines, size_t length, soizkadur_played *played, uint8_t *buffer,
+                        size_t room);
+
 /* ---- an MME, made call by call */
 
 /* Begins the provisioning, as the line `mme`. `plmn` is the network in 3 octets, packed as in S1AP (TS 36.413 clause 9.2.3.8: 001
@@ -221,6 +251,32 @@ uint32_t soizkadur_add_live(soizkadur_mme *mme, const uint8_t *imsi, size_t imsi
 uint32_t soizkadur_give_live(soizkadur_mme *mme, const uint8_t *imsi, size_t imsi_length, const uint8_t *rand, size_t rand_length,
                              const uint8_t *autn, size_t autn_length, const uint8_t *xres, size_t xres_length,
                              const uint8_t *kasme, size_t kasme_length);
+
+/* ---- an MME is saved as octets, and restored from octets to one that replies to every event as the first would have. Whoever has
+ *      the octets has the keys: XRES and KASME of each vector that isn't spent, and KASME of each phone with a security context.
+ *      docs/SECURITY.md, "Snapshots", has what else is in them. Restore none but the last that was saved: an older one would use
+ *      counts and vectors again. */
+
+/* The place after the last part. */
+#define SOIZKADUR_SAVED UINT64_MAX
+
+/* Copies a part of a snapshot to the start of the buffer, the rest of which stays, and writes its length. `place` says which part:
+ * 0, or what the call before has written there, which is SOIZKADUR_SAVED after the last part. All parts one after another are the
+ * snapshot. An event, or provisioning, between two of them makes them parts of different snapshots. What stands first is at 0; at
+ * 2^33 + N is the stranger with the least number from N on (SOIZKADUR_STRANGER), or if there is none, how many subscribers there
+ * are; and at 2^34 + its slot a subscriber. The MME stays as it was, and so do the replies of the last event, which aren't saved.
+ * Refused: NO_MME for an empty handle; BAD_NUMBER for a place that no part has; NO_MME if no MME runs; NOT_SAVED, which no test has
+ * come to; NO_ROOM if `room` is less than the part's length: then only `length` is written; NO_MEMORY. 8,192 octets are enough for
+ * a subscriber. */
+uint32_t soizkadur_save(soizkadur_mme *mme, uint64_t *place, uint8_t *buffer, size_t room, size_t *length);
+
+/* Makes the MME of a snapshot, if the handle is empty: it runs, its clock is where it was, and there are no replies until the next
+ * event. Any octets may be given. `work` bounds how many keys are derived: one for each path switch since a phone's last KeNB (TS
+ * 33.401 clause A.4), of all phones together.
+ * Refused: IN_USE; OTHER_VERSION, and `place` is the version; NO_SNAPSHOT, and `place` is that of the part with the first fault
+ * from the left, as soizkadur_save has it, or SOIZKADUR_SAVED if octets at some place spell no part or go on after the last one;
+ * TOO_MUCH_WORK; NO_MEMORY. An empty handle stays empty, and `place` stays but for these two. */
+uint32_t soizkadur_restore(soizkadur_mme *mme, const uint8_t *octets, size_t length, uint64_t work, uint64_t *place);
 
 /* ---- events. Each answers 0, and its reply is what the MME sends; or it is refused: NO_MME, NO_MEMORY, or as its comment says.
  *      A refused event leaves the MME, and the replies of the last event that was taken, as they were.

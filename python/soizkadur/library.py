@@ -23,6 +23,11 @@ class Fault(ctypes.Structure):
     _fields_ = [("line", ctypes.c_uint64), ("refusal", ctypes.c_uint32)]
 
 
+class Played(ctypes.Structure):
+    """`soizkadur_played`."""
+    _fields_ = [("lines", ctypes.c_uint64), ("taken", ctypes.c_uint32), ("unsaid", ctypes.c_uint32), ("length", ctypes.c_size_t)]
+
+
 class Release(ctypes.Structure):
     """`soizkadur_release`."""
     _fields_ = [("major", ctypes.c_uint32), ("minor", ctypes.c_uint32), ("patch", ctypes.c_uint32)]
@@ -59,12 +64,15 @@ CALLS = {
     "version": (ctypes.POINTER(Release),),
     "new": (MME, *OCTETS, ctypes.POINTER(Fault)),
     "line": (MME, *OCTETS),
+    "play": (MME, *OCTETS, ctypes.POINTER(Played), *ROOM),
     "provision_new": (MME, *OCTETS, U16, U8, *OCTETS, U64, U64),
     "add": (MME, *OCTETS, U32, U32, U32),
     "give": (MME, *OCTETS, *OCTETS, *OCTETS, *OCTETS, *OCTETS),
     "start": (MME,),
     "add_live": (MME, *OCTETS, U32, U32, U32),
     "give_live": (MME, *OCTETS, *OCTETS, *OCTETS, *OCTETS, *OCTETS),
+    "save": (MME, ctypes.POINTER(U64), *ROOM, ctypes.POINTER(SIZE)),
+    "restore": (MME, *OCTETS, U64, ctypes.POINTER(U64)),
     "up": (MME, U8),
     "lost": (MME, U8),
     "in": (MME, U8, *OCTETS),

@@ -6,9 +6,12 @@ from collections.abc import Iterable, Iterator
 from typing import NamedTuple, NoReturn, Self
 
 from . import library
-from .refusals import Refusal, Refused, check, within
+from .refusals import SAVED, Refusal, Refused, check, within
 
 MOST_OCTETS = 16388  # of a message that the MME sends
+PART_OCTETS = 8192  # of a part of a snapshot, as a rule at most
+MOST_WORK = 10_000_000  # keys that are derived for a snapshot; some ten seconds
+TEXT_OCTETS = 1 << 18  # of answers that one call of the library writes
 EVENTS = (b"up", b"lost", b"in", b"tick", b"data", b"cancel")
 
 
@@ -94,7 +97,8 @@ def _sized(*parts: bytes) -> list[bytes | int]:
 
 class Mme:
     """One MME. It begins with nothing: `from_lines` makes one of provisioning lines, or lines, or `provision`, `add`, `give` and
-    `start` make it one by one. While it runs, `add_live` and `give_live` provision further subscribers and vectors.
+    `start` make it one by one. While it runs, `add_live` and `give_live` provision further subscribers and vectors, `save` makes a
+    snapshot of it, and `restored` an MME of a snapshot.
 
     As a context manager it is closed at its end, which frees its memory; `close` does so earlier. It stays on the thread that first
     used it, which is checked here, and can't be copied or pickled.
@@ -107,6 +111,7 @@ class Mme:
         self._count, self._output = ctypes.c_size_t(), library.Output()
         self._buffer = ctypes.create_string_buffer(MOST_OCTETS)
         self._written = memoryview(self._buffer)
+        self._played, self._text = library.Played(), None
         self._thread: int | None = None
 
     @classmethod
@@ -122,6 +127,19 @@ class Mme:
         answer = mme._call("new", given, len(given), fault)
         if answer:
             raise Refused(answer, fault.line)
+        return mme
+
+    @classmethod
+    def restored(cls, octets: bytes, work: int = MOST_WORK) -> Self:
+        """The MME of a snapshot, which runs, and has no replies until the next event. Any octets may be given; `work` is how many
+        next hops may be derived, one for each path switch since a phone's last KeNB.
+
+        Refused: OTHER_VERSION, NO_SNAPSHOT, both with a place, TOO_MUCH_WORK, NO_MEMORY."""
+        mme, place = cls(), ctypes.c_uint64()
+        answer = mme._call("restore", octets, len(octets), within(work, 64), place)
+        if answer:
+            told = answer in (Refusal.OTHER_VERSION, Refusal.NO_SNAPSHOT)
+            raise Refused(answer, place=place.value if told else None)
         return mme
 
     # --- The handle ---
@@ -202,7 +220,29 @@ class Mme:
         aren't spent. Nothing is sent, and the replies of the last event stay.
 
         Refused: BAD_NUMBER, BAD_OCTETS, NO_MME, UNKNOWN_IMSI, PROVISION, NO_MEMORY."""
-        self._take("give_live", *_sized(_octets(imsi), rand, autn, xres, kasme))
+        digits = _octets(imsi)
+        check(self._call("give_live", digits, len(digits), rand, len(rand), autn, len(autn), xres, len(xres), kasme, len(kasme)))
+
+    # --- Saving ---
+
+    def parts(self) -> Iterator[bytes]:
+        """The parts of a snapshot, which is all of them one after another, if nothing happens to the MME between them. They have
+        the keys of its phones. `restored` makes an MME of it that replies to every event as this one would have.
+
+        Refused: NO_MME, NOT_SAVED, NO_MEMORY."""
+        place, length = ctypes.c_uint64(), ctypes.c_size_t()
+        buffer = ctypes.create_string_buffer(PART_OCTETS)
+        while place.value != SAVED:
+            answer = self._call("save", place, buffer, len(buffer), length)
+            if answer == Refusal.NO_ROOM:
+                buffer = ctypes.create_string_buffer(length.value)
+                continue
+            check(answer)
+            yield memoryview(buffer)[:length.value].tobytes()
+
+    def save(self) -> bytes:
+        """A snapshot: all parts. Refused as `parts`."""
+        return b"".join(self.parts())
 
     # --- Events ---
 
@@ -278,6 +318,43 @@ class Mme:
         """Plays lines of a trace one after another, and yields what `mme play` prints for them."""
         for line in lines:
             yield from self.answers(line)
+
+    def play_text(self, text: str | bytes) -> bytes:
+        """Plays the lines of a text, each of which ends with a LF, in one call of the library, and answers what `mme play` prints
+        for them. What comes after the last LF isn't played.
+
+        Refused: UNKNOWN_WORD to PROVISION, NO_MEMORY, LOST, with the line's number; the lines before it are played, and `answers`
+        of what is raised has what was printed for them."""
+        rest, told, before = _octets(text), [], 0
+        while True:
+            answer, written = self._play(rest)
+            told.append(written)
+            if not answer:
+                return b"".join(told)
+            before += self._played.lines
+            if self._played.unsaid:
+                told += [b"%s\n" % str(out).encode() for out in self._messages(0)]
+            if answer != Refusal.NO_ROOM or not (self._played.lines or self._played.taken or self._played.unsaid):
+                raise Refused(answer, before + 1, answers=b"".join(told))
+            rest = rest.split(b"\n", self._played.lines)[-1]
+            rest, whole = self._rest_of(rest)
+            before += whole
+
+    def _play(self, text: bytes) -> tuple[int, bytes]:
+        """Plays lines: what the call answers, and what it writes."""
+        if self._text is None:
+            self._text = memoryview(ctypes.create_string_buffer(TEXT_OCTETS))
+        answer = self._call("play", text, len(text), self._played, self._text.obj, TEXT_OCTETS)
+        return answer, self._text[:self._played.length].tobytes()
+
+    def _rest_of(self, text: bytes) -> tuple[bytes, int]:
+        """What is still to be played of lines of which the first was stopped at, and whether all of that was done."""
+        line, _, others = text.partition(b"\n")
+        done = self._played.taken + self._played.unsaid
+        ticks = int(line[5:]) if line.startswith(b"tick ") else 1
+        if not done:
+            return text, 0
+        return (b"tick %d\n%s" % (ticks - done, others), 0) if done < ticks else (others, 1)
 
     # --- What it sends, and its states ---
 

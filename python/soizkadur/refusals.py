@@ -24,6 +24,10 @@ class Refusal(enum.IntEnum):
     NO_OUTPUT = 23
     NO_ROOM = 24
     LOST = 25
+    NOT_SAVED = 26
+    OTHER_VERSION = 27
+    NO_SNAPSHOT = 28
+    TOO_MUCH_WORK = 29
 
     S1AP_SYNTAX = 31
     S1AP_UNKNOWN_PROCEDURE = 32
@@ -59,8 +63,12 @@ _WORDS = {
     Refusal.NO_MME: "there is no MME, or it isn't started",
     Refusal.IN_USE: "the handle isn't empty",
     Refusal.NO_OUTPUT: "no reply or no message has this place",
-    Refusal.NO_ROOM: "the buffer is too small for the message",
+    Refusal.NO_ROOM: "the buffer is too small for the message or the part",
     Refusal.LOST: "memory ran out as the MME was started; nothing is provisioned any more",
+    Refusal.NOT_SAVED: "a part of the MME has a state that a snapshot can't have",
+    Refusal.OTHER_VERSION: "a snapshot of another version",
+    Refusal.NO_SNAPSHOT: "the octets are no snapshot",
+    Refusal.TOO_MUCH_WORK: "more next hops would be derived than the call allows",
     Refusal.S1AP_SYNTAX: "the octets spell no S1AP message",
     Refusal.S1AP_UNKNOWN_PROCEDURE: "an S1AP procedure that isn't known",
     Refusal.S1AP_MISSING_ELEMENT: "an S1AP element that must stand does not",
@@ -74,15 +82,33 @@ _WORDS = {
 }
 
 
+SAVED = 2**64 - 1  # the place after the last part of a snapshot
+_STRANGERS, _SUBSCRIBERS = 2**33, 2**34  # where the places of strangers and of subscribers begin
+
+
+def _place(refusal: Refusal, place: int) -> str:
+    """What a place is that of, in words."""
+    if refusal is Refusal.OTHER_VERSION:
+        return "version %d: " % place
+    if place == SAVED:
+        return ""
+    if place < _STRANGERS:
+        return "what stands first: "
+    return "stranger %d: " % (place - _STRANGERS) if place < _SUBSCRIBERS else "slot %d: " % (place - _SUBSCRIBERS)
+
+
 class Refused(Exception):
-    """A call was refused; what it was made on is as it was."""
+    """A call was refused; what it was made on is as it was, but for the lines that `Mme.play_text` has played before."""
 
     refusal: Refusal
-    line: int | None  # of provisioning lines, the one that was refused, from 1
+    line: int | None  # of lines, the one that was refused, from 1
+    place: int | None  # of a snapshot, that of the part with the first fault; of another version, the version
+    answers: bytes  # to the lines before, of `Mme.play_text`
 
-    def __init__(self, refusal: int, line: int | None = None) -> None:
-        self.refusal, self.line = Refusal(refusal), line
+    def __init__(self, refusal: int, line: int | None = None, place: int | None = None, answers: bytes = b"") -> None:
+        self.refusal, self.line, self.place, self.answers = Refusal(refusal), line, place, answers
         where = "" if line is None else "line %d: " % line
+        where += "" if place is None else _place(self.refusal, place)
         super().__init__("%s%s (%s)" % (where, self.refusal.words, self.refusal.name))
 
 

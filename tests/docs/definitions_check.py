@@ -4,7 +4,8 @@
   these. Where neither names one, but the contract of a public function cites the definition, the clause of the module's first lines
   stands in brackets. What each says is its comment, which stands above it alone. Crates of laws are left out: they say what the
   definitions of other crates amount to.
-- What stands above the heading "By crate" is written by people.
+- What stands above the heading "By crate" is written by people. Its items name definitions and the files that have them: one of
+  an item's files declares each of its names, and each file one of them.
 """
 import re
 
@@ -12,6 +13,7 @@ from tests.docs import refusals_check, tables
 
 DOCUMENT, MARK, LAWS = "docs/DEFINITIONS.md", "## By crate\n", "laws_"
 STANDARD = r"(?:TS \d+\.\d+|X\.691|RFC \d+|FIPS 197)"
+DECLARED = re.compile(r"\b(?:pub|record|data) (?!record|data)(\w+)")
 DEFINITION = re.compile(r"(?:(?:abbrev|unfoldable) pub|pub (?:record|data)) (\w+)")
 CLAUSE = r"[A-Z]?\d*(?:\.\d+)*"
 
@@ -121,6 +123,22 @@ def write():
     (tables.TOP / DOCUMENT).write_text(written(), encoding="utf-8")
 
 
+def declared_in(place):
+    """What a file of crates/ declares; nothing, if it isn't there."""
+    path = tables.TOP / "crates" / place
+    return set(DECLARED.findall(path.read_text(encoding="utf-8"))) if path.is_file() else set()
+
+
+def misplaced(text):
+    """The names of items above the lists that no file of their item defines, and the files that define none of them."""
+    for line in text[:text.index(MARK)].split("\n"):
+        spans = re.findall(r"`([^`]+)`", line) if line.startswith("- ") else []
+        names = {span for span in spans if "/" not in span}
+        defined = {span: declared_in(span) for span in spans if "/" in span}
+        yield from ("no file beside %s defines it" % name for name in sorted(names.difference(*defined.values())))
+        yield from ("%s defines none of the names beside it" % place for place in defined if not names & defined[place])
+
+
 def checked(_words=()):
     """How many lines are as they should be, and how many not; prints each that isn't."""
     there, owed = tables.text(DOCUMENT).split("\n"), written().split("\n")
@@ -128,6 +146,8 @@ def checked(_words=()):
     faults += ["%s lacks: %s" % (DOCUMENT, line) for line in owed if line not in set(there)]
     if not faults and there != owed:
         faults = ["%s has its lines in another order" % DOCUMENT]
+    faults = ["%s ('tests/docs/write definitions' writes it)" % fault for fault in faults]
+    faults += ["%s: %s" % (DOCUMENT, fault) for fault in misplaced(tables.text(DOCUMENT))]
     for fault in faults:
-        print("FAILED %s ('tests/docs/write definitions' writes it)" % fault)
-    return sum(line.startswith("- `") for line in owed) if not faults else 0, len(faults)
+        print("FAILED " + fault)
+    return sum(line.startswith("- ") for line in owed) if not faults else 0, len(faults)

@@ -19,7 +19,7 @@ import pathlib
 import re
 import subprocess
 
-from tests.docs import tables
+from tests.docs import definitions_check, tables
 from tests.docs.items import Items
 
 DOCUMENTS = ("docs/TOUR.md", "docs/PROOFS.md", "docs/PROMISES.md", "docs/REFUSALS.md", "docs/DEFINITIONS.md", "CONTRIBUTING.md",
@@ -72,7 +72,7 @@ class Tree:
         for text in self.code.values():
             self.words.update(re.findall(r"\w+", re.sub(r"(?m)^\s*(//|--).*$", "", text)))
         specs = "\n".join(text for path, text in self.code.items() if "/specs/" in path)
-        self.definitions = set(re.findall(r"\b(?:pub|record|data) (?!record|data)(\w+)", specs))
+        self.definitions = set(definitions_check.DECLARED.findall(specs))
         source = "\n".join(text for path, text in self.code.items() if "/src/" in path)
         self.bare_lemmas = (set(re.findall(r"(?m)^pub ([a-z]\w*) :", specs))
                             - set(re.findall(r"(?m)^(?:abbrev|unfoldable) pub (\w+)", specs))

@@ -35,8 +35,8 @@ SAID_OTHERWISE = {
     "Watched::flush": ["bytes", "failed", "ended", "calls"], "play_mme": ["printed"], "play_sub": ["printed"], "play_vec": ["printed"],
     "print_show": ["unknown", "err"], "play_show": ["unknown", "err", "stops"], "play_lines": ["played"], "PlaysLines::play_line": ["played"],
     **{"Session::" + call: ["the one"]
-       for call in ("play", "begin", "add", "give", "start", "add_live", "give_live", "up", "down", "hear", "data_waits", "cancel",
-                    "tick")},
+       for call in ("play", "play_text", "begin", "add", "give", "start", "add_live", "give_live", "up", "down", "hear", "data_waits",
+                    "cancel", "tick")},
     "Owners::give": ["takes", "rest"], "Subscribers::give": ["takes", "clock"], "add_once": ["the one"], "give_once": ["the one"],
 }
 # Objects that aren't used further by intent, by the name of the call; readers and writers of bits, and a step under way that a call

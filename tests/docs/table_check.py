@@ -73,10 +73,11 @@ def checked(wanted=()):
         return 0, 1
     document, profile = tables.read("docs/TABLE.md"), tables.read("docs/PROFILE.md")
     facts = subscribers.Facts(document, profile)
-    passed, faults = 0, [*about_phases(document, facts), *unused(document, facts)]
+    passed, faults, untried = 0, [*about_phases(document, facts), *unused(document, facts)], set(wanted)
     for machine, judge in machines(facts):
         if wanted and machine.heading not in wanted:
             continue
+        untried.discard(machine.heading)
         try:
             rows = subscribers.rows_of(document, machine)
         except ValueError as fault:
@@ -87,6 +88,7 @@ def checked(wanted=()):
             fault = judge(row, facts) if row.event in machine.events else None
             passed += not fault
             faults += ["%s, %s: %s" % (machine.heading, row.event, fault)] if fault else []
+    faults += ["%s: no phase has this heading" % heading for heading in sorted(untried)]
     for fault in faults:
         print("FAILED TABLE.md, " + fault)
     return passed, len(faults)

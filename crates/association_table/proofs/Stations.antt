@@ -1,7 +1,10 @@
 -- The entries of a station, and how they are found by the index.
 use Rattle.std.proofs.Common.{◌≡◌, ℕ, ◌+◌, ◌^◌, ◌<◌, ◌≤◌, List, [], ◌∷◌, length, map, refl, sym, ◌∙◌, ap, subst, arith}
 use Rattle.std.specs.Prelude.{nat_lt, nat_le, ◌==◌, Option, Some, None, Bool, true, false, cond, if◌then◌else◌, option_map}
+use Rattle.std.proofs.lemmas.Bool.{eq-eqb, eqb-true}
 use Rattle.std.proofs.lemmas.Bool.Decides.{nat_tests}
+use Rattle.std.proofs.lemmas.Option.{none-some}
+use Rattle.sorted_list.specs.Laws.{at_over}
 use Rattle.sorted_list.specs.Sorted.{lowest_from}
 use Rattle.sorted_list.specs.Ordered.{add, ordered, AllOver, Rising, Every}
 use Rattle.sorted_list.specs.Indexed.{every-ordered}
@@ -192,6 +195,67 @@ none_elsewhere e (y ∷ ys) q = let ih = none_elsewhere e ys in grind (arith, na
 pub length_closed : (id : ℕ) (a : Association) (es : List Association) → found id es ≡ Some a → length (closed id es) < length es
 length_closed id a [] q = absurd (cc)
 length_closed id a (y ∷ ys) q = let ih = length_closed id a ys in grind (arith, nat_tests)
+
+-- ---- closing those of a station, one after the other
+
+-- the first of them is there, and without it the others are left
+pub record IsFirst (e : ℕ) (a : Association) (rest es : List Association) : Type 0 where
+  pub there : found a.id es ≡ Some a
+  pub others : at_station e (closed a.id es) ≡ rest
+  pub away : elsewhere e (closed a.id es) ≡ elsewhere e es
+
+-- one that is there isn't below all
+apart : (j : ℕ) (a : Association) (es : List Association) → AllOver association_id j es → found a.id es ≡ Some a → (j == a.id) ≡ false
+apart j a es over there = by (j == a.id) refl
+  where
+    by : (b : Bool) → (j == a.id) ≡ b → b ≡ false
+    by true same =
+        let none : found a.id es ≡ None = at_over association_id a.id es (subst (λ n. AllOver association_id n es) (eqb-true j a.id same) over) in
+        absurd (none-some a (sym none ∙ there))
+    by false same = refl
+
+first_by : (e : ℕ) (a : Association) (rest : List Association) (y : Association) (ys : List Association) (b : Bool)
+    → (y.station == e) ≡ b → AllOver association_id y.id ys
+    → cond b (y ∷ at_station e ys) (at_station e ys) ≡ a ∷ rest → (at_station e ys ≡ a ∷ rest → IsFirst e a rest ys)
+    → IsFirst e a rest (y ∷ ys)
+first_by e a rest y ys true here over is ih =
+    let same : y ≡ a = cc in
+    let left : at_station e ys ≡ rest = cc in
+    let own : (y.id == y.id) ≡ true = eq-eqb y.id y.id refl in
+    subst (λ (z : Association). IsFirst e z rest (y ∷ ys)) same
+    (record {
+      there = ap (λ b. cond b (Some y) (found y.id ys)) own;
+      others = ap (λ b. at_station e (cond b ys (y ∷ closed y.id ys))) own ∙ left;
+      away = ap (λ b. elsewhere e (cond b ys (y ∷ closed y.id ys))) own
+          ∙ sym (ap (λ b. cond b (elsewhere e ys) (y ∷ elsewhere e ys)) here);
+    })
+first_by e a rest y ys false here over is ih =
+    let own = ih is in
+    let other = apart y.id a ys over own.there in
+    record {
+      there = ap (λ b. cond b (Some y) (found a.id ys)) other ∙ own.there;
+      others = ap (λ b. at_station e (cond b ys (y ∷ closed a.id ys))) other
+          ∙ ap (λ b. cond b (y ∷ at_station e (closed a.id ys)) (at_station e (closed a.id ys))) here ∙ own.others;
+      away = ap (λ b. elsewhere e (cond b ys (y ∷ closed a.id ys))) other
+          ∙ ap (λ b. cond b (elsewhere e (closed a.id ys)) (y ∷ elsewhere e (closed a.id ys))) here
+          ∙ ap (λ zs. y ∷ zs) own.away ∙ sym (ap (λ b. cond b (elsewhere e ys) (y ∷ elsewhere e ys)) here);
+    }
+
+pub first_there : (e : ℕ) (a : Association) (rest es : List Association) → Rising association_id es → at_station e es ≡ a ∷ rest
+    → IsFirst e a rest es
+first_there e a rest [] h is = absurd (cc)
+first_there e a rest (y ∷ ys) h is = first_by e a rest y ys (y.station == e) refl h.0 is (first_there e a rest ys h.1)
+
+-- and where none is left all are elsewhere
+elsewhere_by : (e : ℕ) (y : Association) (ys : List Association) (b : Bool) → (y.station == e) ≡ b
+    → cond b (y ∷ at_station e ys) (at_station e ys) ≡ [] → (at_station e ys ≡ [] → elsewhere e ys ≡ ys)
+    → cond b (elsewhere e ys) (y ∷ elsewhere e ys) ≡ y ∷ ys
+elsewhere_by e y ys true here is ih = absurd (cc)
+elsewhere_by e y ys false here is ih = ap (λ zs. y ∷ zs) (ih is)
+
+pub all_elsewhere : (e : ℕ) (es : List Association) → at_station e es ≡ [] → elsewhere e es ≡ es
+all_elsewhere e [] is = refl
+all_elsewhere e (y ∷ ys) is = elsewhere_by e y ys (y.station == e) refl is (all_elsewhere e ys)
 
 -- ---- listing a station
 

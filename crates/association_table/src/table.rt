@@ -267,9 +267,13 @@ impl Associations {
         ensures entries { OnOk result (self.new.entries ≡ elsewhere station self.old.entries) }
         ensures err { OnErr result (self.new ≡ self.old) }
         ensures room { self.old.room ≤ self.new.room }
+        ensures order { Rising association_id self.old.entries }
     {
         let entries = self.entries_at(station)?;
-        self.clear_station(station);
+        let closed = entries.as_slice();
+        for association in closed {
+            self.close_found(*association);
+        }
         Ok(entries)
     }
 
@@ -285,6 +289,7 @@ impl Associations {
         ensures entries { OnOk result (self.new.entries ≡ unlisted station items.now self.old.entries) }
         ensures err { OnErr result (self.new ≡ self.old) }
         ensures room { self.old.room ≤ self.new.room }
+        ensures order { Rising association_id self.old.entries }
     {
         let gathered = gathered(self.alloc, self, station, items)?;
         let listed = gathered.items(self.alloc)?;

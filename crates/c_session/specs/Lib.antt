@@ -5,3 +5,4 @@ pub mod Lines
 pub mod Live
 pub mod Refusals
 pub mod Sessions
+pub mod Texts

@@ -9,7 +9,7 @@ use Rattle.trace_words.specs.declared.fault.TraceFault.TheVariants as line
 use Rattle.trace_progress.specs.declared.fault.PlayFault.{PlayFault}
 use Rattle.trace_progress.specs.declared.fault.PlayFault.TheVariants as play
 use Rattle.c_session.specs.declared.refusal.Refusal.{Refusal}
-use Rattle.c_session.specs.declared.refusal.Refusal.TheVariants.{NotUp, AlreadyUp, ClockSpent, NoMemory, UnknownImsi, UnknownWord, FieldCount, BadNumber, BadOctets, TooLong, Order, Provision, NoMme, InUse, NoOutput, NoRoom, Lost}
+use Rattle.c_session.specs.declared.refusal.Refusal.TheVariants.{NotUp, AlreadyUp, ClockSpent, NoMemory, UnknownImsi, UnknownWord, FieldCount, BadNumber, BadOctets, TooLong, Order, Provision, NoMme, InUse, NoOutput, NoRoom, Lost, NotSaved, OtherVersion, NoSnapshot, TooMuchWork}
 
 -- the number of a refusal
 abbrev pub number_of : Refusal → ℕ
@@ -30,6 +30,10 @@ number_of InUse = 22
 number_of NoOutput = 23
 number_of NoRoom = 24
 number_of Lost = 25
+number_of NotSaved = 26
+number_of OtherVersion = 27
+number_of NoSnapshot = 28
+number_of TooMuchWork = 29
 
 -- the refusal of an event
 abbrev pub of_step : StepFault → Refusal

@@ -8,10 +8,13 @@ mod lines;
 mod live;
 mod refusal;
 mod replies;
+mod said;
 mod session;
+mod text;
 mod ticks;
 
 pub use lines::LinesFault;
 pub use refusal::Refusal;
 pub use replies::Replies;
 pub use session::Session;
+pub use text::Stop;

@@ -45,10 +45,18 @@ pub enum Refusal {
     NoRoom = 24,
     /// Memory ran out while the MME was made of what was provisioned, of which nothing is left.
     Lost = 25,
+    /// A part of the MME has a state that a snapshot can't have.
+    NotSaved = 26,
+    /// A snapshot of another version.
+    OtherVersion = 27,
+    /// The octets are no snapshot.
+    NoSnapshot = 28,
+    /// More next hops would be derived than the caller allows.
+    TooMuchWork = 29,
 }
 
 impl Refusal {
-    /// Its number, 1 to 25.
+    /// Its number, 1 to 29.
     pub fn number(self) -> u8
         ensures { result ≡ number_of self }
     {

@@ -1,7 +1,7 @@
 //! The replies to an event.
 
 ghost use Rattle.std.specs.Prelude.{◌≡◌, [], ◌∷◌, length, option_map, slice_get, Ok};
-ghost use Rattle.c_session.specs.Kept.{lent, only_sent};
+ghost use Rattle.c_session.specs.Kept.{lent, only_sent, replies_in};
 
 use mme_core::{Out, Outs, StepFault};
 use std::alloc::Global;
@@ -18,9 +18,19 @@ enum Room {
 }
 
 /// The replies to an event, or to several ticks, in order; a contract sees their list.
-#[derive(Drop)]
 pub struct Replies {
     room: Room,
+}
+
+impl Drop for Replies {
+    // Zeros stand in place of what they sent before it is freed, since some of it carries a key.
+    fn drop(self) {
+        let Replies { room } = self;
+        match room {
+            Room::One(outs) => outs.forget(),
+            Room::Each(replies) => forget_each(replies),
+        }
+    }
 }
 
 impl Model for Replies {
@@ -34,7 +44,7 @@ impl Model for Replies {
 
 impl Replies {
     /// No reply; takes no memory.
-    pub(crate) fn none(alloc: Global) -> Replies
+    pub fn none(alloc: Global) -> Replies
         ensures { result ≡ [] }
     {
         Replies {
@@ -60,14 +70,20 @@ impl Replies {
         }
     }
 
+    fn into_room(self) -> Room
+        ensures { replies_in result ≡ self }
+    {
+        let Replies { room } = self;
+        room
+    }
+
     /// The reply to an event that was taken stands in their place. Where they were one such reply too, what it sent is answered, so
     /// that its room can be used again, and else they are forgotten.
     pub(crate) fn exchange(&mut self, outs: Outs) -> Option<Outs>
         ensures stands { self.new ≡ Ok outs ∷ [] }
         ensures before { result ≡ only_sent self.old }
     {
-        let before = mem::replace(self, Replies::one(outs));
-        match before.room {
+        match mem::replace(self, Replies::one(outs)).into_room() {
             Room::One(sent) => Some(sent),
             Room::Each(replies) => only_sent(replies),
         }
@@ -77,15 +93,7 @@ impl Replies {
     pub(crate) fn give_way(&mut self, others: Replies)
         ensures { self.new ≡ others }
     {
-        mem::replace(self, others).forget();
-    }
-
-    // Nobody asks for them any more: zeros stand in place of what they sent before it is freed, since some of it carries a key.
-    fn forget(self) {
-        match self.room {
-            Room::One(outs) => outs.forget(),
-            Room::Each(replies) => forget_each(replies),
-        }
+        *self = others;
     }
 
     /// How many there are.

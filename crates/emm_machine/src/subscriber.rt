@@ -199,7 +199,6 @@ fn spent(alloc: Global, solo: &Solo) -> Result<Box<Draft>, AllocError>
 /// A subscriber; what these calls answer are parts of its state and of what no step changes, and a copy is equal.
 ///
 /// A contract sees what no step changes of it, and the state of its machine.
-#[derive(Drop)]
 pub struct Subscriber {
     setting: Setting,
     // Those are spent that the state asks for no more, and no others.
@@ -220,6 +219,20 @@ impl Model for Subscriber {
     ghost view = { λ s. record { setting = s.setting; solo = s.state.value.solo } };
 
     ghost invariant = { λ s. AreSpentFor s.setting.vectors s.state.value.solo s.vectors };
+}
+
+impl Drop for Subscriber {
+    // The secrets of its vectors and the keys of its context are overwritten before they are freed.
+    fn drop(self) {
+        let Subscriber {
+            setting: _,
+            mut vectors,
+            mut state,
+            alloc: _,
+        } = self;
+        vectors.spend_before(usize::MAX);
+        state.solo.forget();
+    }
 }
 
 impl Subscriber {

@@ -16,6 +16,7 @@ use Rattle.stranger_machine.specs.Turns.{after_of}
 use Rattle.mme_tables.specs.Waiting.{due_ids}
 use Rattle.mme_owners.specs.SteppedView.{SteppedView}
 use Rattle.mme_owners.specs.Touched.{KeepsPlace}
+use Rattle.mme_owners.specs.Noticed.{slots_noticed, OutlivesNotice}
 use Rattle.mme_owners.specs.Subscribers.{AreOnward, IsCounting, due_slots, slots_stepped, step_at, subscriber_step, tick_settled}
 use Rattle.mme_owners.specs.Owners.{IsWaitAfter}
 use Rattle.mme_owners.specs.Placed.{AreApart}
@@ -56,13 +57,15 @@ AreFit ws xs =
     Every (λ (x : SteppedView). x.slot < length ws) xs × Every (λ (x : SteppedView). IsCounting x.solo) xs × AreOnward ws xs
 
 -- each is that of a subscriber, at a tick they are those who are due, as the strangers are, and any other notice is that of a
--- station; at both each is connected as it was, or no longer; and none asks for a vector that was spent
+-- station, and they are those whom it touches; at both each is connected as it was, where a notice doesn't end it, or no longer; and
+-- none asks for a vector that was spent
 abbrev pub IsFor : Prepared → List Known → List SubscriberView → Type 0
 IsFor prepared.Nobody ks ws = Unit {0}
 IsFor (prepared.Subscriber x) ks ws = IsFit ws x
 IsFor (prepared.Stranger id after x) ks ws = IsFitIf ws x
 IsFor (prepared.Everyone notice xs) ks ws =
-    AreFit ws xs.items × (length xs.items ≤ length ws) × (is_of_station notice ≡ true) × Every (KeepsPlace ws) xs.items
+    AreFit ws xs.items × (length xs.items ≤ length ws) × (is_of_station notice ≡ true) × Every (OutlivesNotice notice ws) xs.items
+    × (slots_stepped xs.items ≡ slots_noticed notice ws)
 IsFor (prepared.Tick ids xs) ks ws =
     (slots_stepped xs.items ≡ due_slots ws) × Every (λ (x : SteppedView). IsCounting x.solo) xs.items × Every (KeepsPlace ws) xs.items
     × (ids.items ≡ due_ids ks) × AreOnward ws xs.items

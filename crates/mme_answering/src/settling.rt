@@ -12,9 +12,10 @@ ghost use Rattle.stranger_machine.specs.Turns.{after_of};
 ghost use Rattle.mme_tables.specs.Waiting.{due_ids};
 ghost use Rattle.mme_owners.specs.Subscribers.{due_slots, slots_stepped, tick_settled, with_stepped, AreOnward, IsCounting};
 ghost use Rattle.mme_owners.specs.Touched.{KeepsPlace};
+ghost use Rattle.mme_owners.specs.Noticed.{slots_noticed, OutlivesNotice};
 ghost use Rattle.mme_owners.specs.Owners.{with_one, IsFitIf, IsWaitAfter};
 ghost use Rattle.mme_owners.specs.Placed.{AreApart};
-ghost use Rattle.mme_answering.specs.Settled.{AreFit, IsApart, IsFor, IsWaiting, MayPass, settled_clock, settled_strangers, settled_subscribers, starts_of, steps_of};
+ghost use Rattle.mme_answering.specs.Settled.{IsApart, IsFor, IsWaiting, MayPass, settled_clock, settled_strangers, settled_subscribers, starts_of, steps_of};
 
 use crate::prepared::Prepared;
 use identity_slots::AssociationId;
@@ -85,20 +86,27 @@ fn settle_turn(
     owners.settle_turn(id, after, called)
 }
 
-// All strangers have taken a notice of a station, and those subscribers whom it touches are what was prepared.
+// All strangers have taken a notice of a station, and those subscribers whom it touches are what was prepared. Refused, all are as
+// they were.
 #[inline(never)]
-fn settle_noticed(owners: &mut Owners, notice: Notice, stepped: Vec<Stepped>)
+fn settle_noticed(
+    owners: &mut Owners,
+    notice: Notice,
+    stepped: Vec<Stepped>,
+) -> Result<(), AllocError>
     requires station { is_of_station notice ≡ true }
-    requires fits { AreFit owners.old.subscribers stepped.items }
-    requires kept { Every (KeepsPlace owners.old.subscribers) stepped.items }
+    requires slots { slots_stepped stepped.items ≡ slots_noticed notice owners.old.subscribers }
+    requires kept { Every (OutlivesNotice notice owners.old.subscribers) stepped.items }
+    requires counting { Every (λ x. IsCounting x.solo) stepped.items }
+    requires onward { AreOnward owners.old.subscribers stepped.items }
     requires room { 2 * length stepped.items ≤ owners.old.room }
     requires places { length stepped.items ≤ owners.old.places }
     ensures clock { owners.new.clock ≡ owners.old.clock }
-    ensures strangers { owners.new.strangers ≡ noted notice owners.old.strangers }
-    ensures subscribers { owners.new.subscribers ≡ with_stepped stepped.items owners.old.subscribers }
+    ensures strangers { OnOk result (owners.new.strangers ≡ noted notice owners.old.strangers) }
+    ensures subscribers { OnOk result (owners.new.subscribers ≡ with_stepped stepped.items owners.old.subscribers) }
+    ensures err { OnErr result (owners.new ≡ owners.old) }
 {
-    owners.note(&notice);
-    owners.settle_all(stepped);
+    owners.settle_noticed(&notice, stepped)
 }
 
 // A tick for all, where those who are due are what was prepared.
@@ -121,7 +129,7 @@ fn tick(owners: &mut Owners, due: Vec<AssociationId>, stepped: Vec<Stepped>)
 
 /// Leaves the prepared ones; if memory is refused, all are as they were.
 ///
-/// Room for countdowns, for associations and for a stranger comes first.
+/// Room for countdowns, for associations and for a stranger comes first, and what a notice of a station ends is closed.
 pub fn settle(owners: &mut Owners, prepared: Prepared) -> Result<(), AllocError>
     requires fits { IsFor prepared owners.old.strangers owners.old.subscribers }
     requires apart { IsApart prepared owners.old.strangers owners.old.subscribers }
@@ -145,7 +153,7 @@ pub fn settle(owners: &mut Owners, prepared: Prepared) -> Result<(), AllocError>
         Prepared::Nobody => {}
         Prepared::Subscriber(called) => owners.settle(called),
         Prepared::Stranger(id, after, called) => return settle_turn(owners, id, after, called),
-        Prepared::Everyone(notice, stepped) => settle_noticed(owners, notice, stepped),
+        Prepared::Everyone(notice, stepped) => return settle_noticed(owners, notice, stepped),
         Prepared::Tick(due, stepped) => tick(owners, due, stepped),
     }
     Ok(())

@@ -1,5 +1,5 @@
 -- What calls make of a session, by their answers.
-use Rattle.std.proofs.Common.{◌≡◌, ◌⊎◌, inl, inr, ℕ, List, Option, Some, None, Result, Ok, Err, refl, sym, subst, ap, ◌∙◌}
+use Rattle.std.proofs.Common.{◌≡◌, ◌⊎◌, inl, inr, ℕ, ◌≤◌, List, [], length, arith, Option, Some, None, Result, Ok, Err, refl, sym, subst, ap, ◌∙◌}
 use Rattle.mme_core.specs.World.{World}
 use Rattle.c_session.specs.declared.refusal.Refusal.{Refusal}
 use Rattle.c_session.specs.declared.session.Session.{Session}
@@ -7,7 +7,11 @@ use Rattle.c_session.specs.Refusals.{number_of}
 use Rattle.c_session.specs.declared.lines.LinesFault.{LinesFault}
 use Rattle.c_session.specs.Lines.{IsShortOf, made_of}
 use Rattle.c_session.specs.Sessions.{Leaves, Plays, Runs, Starts, nothing}
+use Rattle.c_session.specs.declared.text.Stop.{Stop}
+use Rattle.c_session.specs.Texts.{PlaysText}
 use Rattle.mme_c.specs.declared.provisioning.LineFault.{LineFault}
+use Rattle.mme_c.specs.declared.texts.TextPlayed.{TextPlayed}
+use Rattle.mme_c.specs.Texts.{IsPlayed, IsText, session_of}
 use Rattle.mme_c.specs.Calls.{IsAnswered, IsFirst, IsKept, IsLine, IsMade, IsNew, IsStarted, IsTicked, answer_number, line_fault}
 
 pub is_answered : (wanted : Result Session Refusal) (s after : Session) (result : Result (Unit {0}) Refusal)
@@ -56,6 +60,19 @@ first_line_refused text s refusal p = (Err refusal, s, p, (refl, refl))
 pub line_played : (text : List ℕ) (s after : Session) (result : Result (Unit {0}) Refusal) → Plays text s result after
     → IsLine (Some s) text (answer_number result) (Some after)
 line_played text s after result p = (result, p, refl)
+
+-- ---- texts
+
+pub within_room : (text : List ℕ) (s new : Session) (room : ℕ) (result : Result ℕ Stop) (answers : List ℕ)
+    → PlaysText text s room [] result new answers → length answers ≤ room
+within_room text s new room (Ok lines) answers h = let all = h.3.1 in all (omega arith)
+within_room text s new room (Err stop) answers h = let all = h.2.1 in all (omega arith)
+
+pub text_is_played : (old : Option Session) (text buffer buffer' : List ℕ) (answer : ℕ) (after : Session) (played played' : TextPlayed)
+    → IsPlayed (session_of old) text buffer answer after played' buffer'
+    → IsText old text played buffer answer (Some after) played' buffer'
+text_is_played None text buffer buffer' answer after played played' h = h
+text_is_played (Some s) text buffer buffer' answer after played played' h = h
 
 -- ---- a new MME
 

@@ -1,3 +1,6 @@
 pub mod Answered
-pub mod Values
 pub mod LooseValues
+pub mod PartPlaces
+pub mod Restored
+pub mod Resumed
+pub mod Values

@@ -10,8 +10,11 @@ mod handle;
 mod live;
 mod loose;
 mod numbers;
+mod places;
 mod provisioning;
 mod replies;
+mod snapshots;
+mod texts;
 
 pub use codecs::{
     MessageIds, NasForm, Release, soizkadur_eia2, soizkadur_kenb, soizkadur_nas,
@@ -32,3 +35,5 @@ pub use replies::{
     Output, SubscriberStates, soizkadur_count, soizkadur_out, soizkadur_replies,
     soizkadur_slot_of_imsi, soizkadur_states,
 };
+pub use snapshots::{soizkadur_restore, soizkadur_save};
+pub use texts::{TextPlayed, soizkadur_play};

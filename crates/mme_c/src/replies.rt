@@ -109,7 +109,7 @@ fn written(
 }
 
 /// Copies octets to the start of a buffer, where there is room for them.
-fn copied(octets: &[u8], buffer: &mut [u8]) -> u32
+pub(crate) fn copied(octets: &[u8], buffer: &mut [u8]) -> u32
     ensures { IsCopied octets.now buffer.old result buffer.new }
 {
     if octets.len() > buffer.len() {

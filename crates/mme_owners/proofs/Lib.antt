@@ -1,4 +1,5 @@
 mod Apart
+mod Ended
 mod Given
 mod Noting
 mod Onward

@@ -23,7 +23,7 @@ use Rattle.mme_owners.specs.Touched.{all_whereabouts, touched_slots, whereabouts
 
 -- ---- where the phones are
 
-set_is : {X : Type 0} (k : ℕ) (x : X) (xs : List X) → slice_set xs k x ≡ changed_at k (λ _. x) xs
+pub set_is : {X : Type 0} (k : ℕ) (x : X) (xs : List X) → slice_set xs k x ≡ changed_at k (λ _. x) xs
 set_is k x [] = refl
 set_is zero x (y ∷ ys) = refl
 set_is (suc k) x (y ∷ ys) = ap (λ zs. y ∷ zs) (set_is k x ys)
@@ -84,7 +84,7 @@ has_at (w ∷ ws) zero k is = record { subscriber = w; there = refl; connected =
 has_at (w ∷ ws) (suc i) k is =
     let h = has_at ws i k is in record { subscriber = h.subscriber; there = h.there; connected = h.connected }
 
-at_has : (ws : List SubscriberView) (i : ℕ) (k : Connection) (x : SubscriberView) → slice_get ws i ≡ Some x
+pub at_has : (ws : List SubscriberView) (i : ℕ) (k : Connection) (x : SubscriberView) → slice_get ws i ≡ Some x
     → x.solo.connection ≡ Some k → connection_at i (all_whereabouts ws) ≡ Some k
 at_has [] i k x there is = absurd (none-some x there)
 at_has (w ∷ ws) zero k x there is = ap (λ (v : SubscriberView). v.solo.connection) (same_Some w x there) ∙ is

@@ -9,3 +9,4 @@ pub mod Given
 pub mod Lent
 pub mod Matching
 pub mod Touched
+pub mod Noticed

@@ -1,5 +1,6 @@
 -- Where subscribers are, and strangers that wait, as the associations have it.
 use Rattle.std.specs.Prelude.{◌≡◌, ℕ, ◌==◌, ◌&&◌, if◌then◌else◌, is_some, not, List, [], ◌∷◌, Option, Some, None}
+use Rattle.identity_slots.specs.Ids.{number_in, station_in}
 use Rattle.association_table.specs.declared.association.Association.{Association}
 use Rattle.mme_tables.specs.Whereabouts.{ConnectionTable, waits_at, NoneWaits}
 use Rattle.mme_types.specs.declared.connection.Connection.{Connection}
@@ -8,14 +9,17 @@ use Rattle.stranger_machine.specs.declared.state.Stranger.{Stranger}
 use Rattle.stranger_machine.specs.declared.state.Stranger.TheVariants.{Waiting, Held}
 use Rattle.stranger_machine.specs.declared.table.Known.{Known}
 use Rattle.stranger_machine.specs.Table.{stranger_at}
-use Rattle.stranger_machine.specs.Turns.{place_of}
 use Rattle.mme_tables.specs.Waiting.{wait_at}
 use Rattle.mme_owners.specs.SteppedView.{SteppedView}
 use Rattle.mme_owners.specs.Touched.{all_whereabouts, Has}
 
--- where the stranger with an id is, if it waits
+-- where a stranger is whose id that is: the id is made of its station and its eNB UE S1AP ID
+abbrev pub own_place : ℕ → Connection
+own_place id = record { id = id; station = station_in id; enb_ue_id = number_in id }
+
+-- and the stranger with it, if it waits
 abbrev pub place_in_state : ℕ → Stranger → Option Connection
-place_in_state id (Waiting kept left repeats) = Some (place_of id kept)
+place_in_state id (Waiting kept left repeats) = Some (own_place id)
 place_in_state id (Held slot) = None
 
 abbrev pub place_if : ℕ → Option Stranger → Option Connection

@@ -10,6 +10,7 @@
 #![tactic(auto)]
 
 mod lent;
+mod noticed;
 mod owners;
 mod placing;
 mod record;

@@ -15,17 +15,19 @@ ghost use Rattle.stranger_machine.specs.declared.turn.Notice.TheVariants.{Tick};
 ghost use Rattle.mme_tables.specs.Waiting.{due_ids};
 ghost use Rattle.mme_owners.specs.Subscribers.{due_slots, one_less, slots_stepped, tick_settled, with_solo, with_stepped, AreCounting, AreOnward, IsCounting, IsOnwardAt};
 ghost use Rattle.mme_owners.specs.Touched.{all_whereabouts, touched_slots, whereabouts, KeepsPlace};
+ghost use Rattle.mme_owners.specs.Noticed.{slots_noticed, OutlivesNotice};
 ghost use Rattle.mme_owners.specs.Given.{TakesOneVector};
 ghost use Rattle.mme_owners.specs.Lent.{lent_now};
 ghost use Rattle.mme_owners.specs.Owners.{with_one, IsFitIf, IsFreeIf, IsWaitAfter, NobodyIsDue};
 ghost use Rattle.mme_owners.specs.Placed.{AreApart, IsOn, NoneWaitsIf};
 
 use crate::lent::LentSubscriber;
-use crate::placing::{leave, place, place_all, place_of};
+use crate::noticed::note;
+use crate::placing::{leave, place, place_all, place_of, vacate};
 use crate::records::Records;
 use crate::stepped::Stepped;
 use emm_machine::{States, Subscriber};
-use identity_slots::{AssociationId, ProvisionFault, Slot, Vector, station_in};
+use identity_slots::{AssociationId, ProvisionFault, Slot, Vector};
 use mme_tables::{Connections, Due};
 use mme_types::{Connection, StationNumber};
 use s1ap_elements::AssociationToReset;
@@ -36,9 +38,9 @@ use stranger_machine::{After, Notice};
 /// Strangers and subscribers; one queue has exactly the countdowns that run (`AreRecords`), and one map the associations
 /// (`ArePlaced`). `is_due` says whether the next tick ends a countdown, `due` gives whose; `pass` is a tick that ends none.
 /// `concerned` and `listed` answer, by a look at their state, the slots that the loss of a station, or its RESET of a part, may
-/// change (`touched_slots`). `settle`, `settle_all`, `settle_turn`, `note` and `tick` take no memory if there is room, except for a
-/// new stranger; they take countdowns of 1 to 3480 ticks and states that ask for no spent vector (`AreOnward`), as all prepared
-/// ones are.
+/// change (`touched_slots`). `settle`, `settle_turn`, `settle_noticed` and `tick` take no memory if there is room, except for a new
+/// stranger and to close what a notice ends; they take countdowns of 1 to 3480 ticks and states that ask for no spent vector
+/// (`AreOnward`), as all prepared ones are.
 ///
 /// A contract sees the clock, each stranger and each subscriber as it is now, and for how many countdowns and changes of
 /// associations there is room.
@@ -64,28 +66,6 @@ impl Model for Owners {
     } };
 
     ghost invariant = { λ t. ArePlaced t.records.strangers t.records.subscribers t.connections };
-}
-
-// The station of a notice of a station.
-fn noted_station(notice: &Notice) -> u8
-    requires { is_of_station notice.now ≡ true }
-    ensures { result ≡ noted_station notice.now }
-{
-    match notice {
-        Notice::Tick => unreachable!(),
-        Notice::Gone(station) | Notice::Listed(station, _) => station.get(),
-    }
-}
-
-// An id that none of a station's is below.
-fn first_id(station: u8) -> u64
-    ensures least { (id : ℕ) → station_in id ≡ station → result ≤ id }
-    ensures most { (id : ℕ) → result ≤ id → station ≤ station_in id }
-{
-    match station {
-        0 => 0,
-        _ => 0x8000_0000 + u64::from(station) * 0x100_0000,
-    }
 }
 
 // The state of the one that a stranger calls, if it calls one, is what was prepared, and so is the place of its phone. Takes no
@@ -256,22 +236,33 @@ impl Owners {
         settle_called(&mut self.records, &mut self.connections, Some(stepped));
     }
 
-    /// The states of slots are those that were prepared, one after the other, where there is room, and each is connected as it was,
-    /// or no longer. Takes no memory.
-    pub fn settle_all(&mut self, stepped: Vec<Stepped>)
-        requires slots { Every (λ x. x.slot < length self.old.subscribers) stepped.items }
-        requires kept { Every (KeepsPlace self.old.subscribers) stepped.items }
+    /// All have taken a notice of a station: it closes strangers, and those whom it touches have the states that were prepared, in
+    /// which each is connected as it was, where it isn't ended, or no longer. The associations that it ends are closed at once, and
+    /// that alone takes memory; refused, all are as they were.
+    pub fn settle_noticed(
+        &mut self,
+        notice: &Notice,
+        stepped: Vec<Stepped>,
+    ) -> Result<(), AllocError>
+        requires station { is_of_station notice.now ≡ true }
+        requires slots { slots_stepped stepped.items ≡ slots_noticed notice.now self.old.subscribers }
+        requires kept { Every (OutlivesNotice notice.now self.old.subscribers) stepped.items }
         requires counting { Every (λ x. IsCounting x.solo) stepped.items }
         requires onward { AreOnward self.old.subscribers stepped.items }
         requires room { 2 * length stepped.items ≤ self.old.room }
         requires places { length stepped.items ≤ self.old.places }
         ensures clock { self.new.clock ≡ self.old.clock }
-        ensures strangers { self.new.strangers ≡ self.old.strangers }
-        ensures subscribers { self.new.subscribers ≡ with_stepped stepped.items self.old.subscribers }
+        ensures strangers { OnOk result (self.new.strangers ≡ noted notice.now self.old.strangers) }
+        ensures subscribers { OnOk result (self.new.subscribers ≡ with_stepped stepped.items self.old.subscribers) }
+        ensures err { OnErr result (self.new ≡ self.old) }
     {
+        self.records.ids_rise();
+        vacate(&mut self.connections, notice)?;
         let states = stepped.as_slice();
         place_all(&mut self.connections, states);
         self.records.settle_all(stepped);
+        note(&mut self.records, notice);
+        Ok(())
     }
 
     /// A stranger is what was prepared, and the subscriber that it calls, where there is room, and with both no two have one id:
@@ -325,58 +316,6 @@ impl Owners {
         self.records.ids_rise();
         self.records.close(id);
         self.connections.end_wait(id);
-    }
-
-    // The lowest id of at least `least`. The ids rise.
-    fn first_from(&self, least: u64) -> Option<AssociationId>
-        ensures value { result ≡ option_map known_id (lowest_from known_id least self.now.strangers) }
-        ensures order { Rising known_id self.now.strangers }
-    {
-        self.records.strangers.first_from(least)
-    }
-
-    // Whether a notice of a station closes the stranger with an id, unless it is closed.
-    fn is_closed_by(&self, id: AssociationId, notice: &Notice) -> bool
-        requires { is_of_station notice.now ≡ true }
-        ensures { IsSome (stranger_at id self.now.strangers) → result ≡ closes id notice.now }
-    {
-        self.records.strangers.is_closed_by(id, notice)
-    }
-
-    // The stranger with an id, which isn't closed, takes a notice of a station.
-    fn note_one(&mut self, id: AssociationId, notice: &Notice)
-        requires station { is_of_station notice.now ≡ true }
-        requires there { IsSome (stranger_at id self.old.strangers) }
-        ensures clock { self.new.clock ≡ self.old.clock }
-        ensures strangers { self.new.strangers
-            ≡ (if closes id notice.now then without known_id id self.old.strangers else self.old.strangers) }
-        ensures subscribers { self.new.subscribers ≡ self.old.subscribers }
-        ensures room { self.old.room ≤ self.new.room }
-        ensures places { self.old.places ≤ self.new.places }
-    {
-        if self.is_closed_by(id, notice) {
-            self.close(id);
-        }
-    }
-
-    /// All strangers after a notice of a station. Only those of that station are looked at. Takes no memory.
-    pub fn note(&mut self, notice: &Notice)
-        requires { is_of_station notice.now ≡ true }
-        ensures clock { self.new.clock ≡ self.old.clock }
-        ensures strangers { self.new.strangers ≡ noted notice.now self.old.strangers }
-        ensures subscribers { self.new.subscribers ≡ self.old.subscribers }
-        ensures room { self.old.room ≤ self.new.room }
-        ensures places { self.old.places ≤ self.new.places }
-    {
-        let station = noted_station(notice);
-        let mut least = first_id(station);
-        while let Some(id) = self.first_from(least) {
-            if station_in(id) != station {
-                break;
-            }
-            self.note_one(id, notice);
-            least = u64::from(id.get()) + 1;
-        }
     }
 
     /// One tick, where those are the strangers whose T3470 it ends, and each subscriber that has a countdown which it ends has the

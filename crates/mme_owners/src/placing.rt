@@ -1,19 +1,23 @@
 //! Where the phones are, by the states of their subscribers, and where strangers wait, by theirs.
 
-ghost use Rattle.std.specs.Prelude.{◌≡◌, ◌+◌, ◌<◌, ◌≤◌, ℕ, length, slice_set};
+ghost use Rattle.std.specs.Prelude.{◌≡◌, ◌+◌, ◌<◌, ◌≤◌, ℕ, OnErr, OnOk, length, map, slice_set, true};
 ghost use Rattle.emm_machine.specs.Still.{pages};
 ghost use Rattle.sorted_list.specs.Ordered.{Every};
-ghost use Rattle.mme_tables.specs.Whereabouts.{waits_at, IsFree, NoneWaits};
+ghost use Rattle.stranger_machine.specs.Machine.{is_of_station};
+ghost use Rattle.mme_tables.specs.Whereabouts.{away_from, unless, waits_at, IsFree, NoneWaits};
 ghost use Rattle.mme_owners.specs.Touched.{whereabouts, with_whereabouts, KeepsConnection};
-ghost use Rattle.mme_owners.specs.Placed.{place_in_state, still_there};
+ghost use Rattle.mme_owners.specs.Noticed.{ended_by};
+ghost use Rattle.mme_owners.specs.Placed.{own_place, place_in_state, still_there};
 
 use crate::records::Records;
 use crate::stepped::Stepped;
 use emm_state::{Repeat, Solo};
-use identity_slots::{AssociationId, Slot};
+use identity_slots::{AssociationId, Slot, number_in, station_in};
 use mme_tables::{Connections, Whereabouts};
-use mme_types::Connection;
-use stranger_machine::Stranger;
+use mme_types::{Connection, StationNumber};
+use s1ap_elements::EnbUeId;
+use std::alloc::AllocError;
+use stranger_machine::{Notice, Stranger};
 
 // ---- subscribers
 
@@ -61,20 +65,29 @@ pub(crate) fn place_all(connections: &mut Connections, stepped: &[Stepped])
 
 // ---- strangers
 
+// The place that a stranger's id is made of.
+fn own_place(id: AssociationId) -> Connection
+    ensures { result ≡ own_place id }
+{
+    // (that it has 32 bits)
+    let _ = id.get();
+    Connection {
+        id,
+        station: StationNumber::new(station_in(id)),
+        enb_ue_id: EnbUeId::new(u64::from(number_in(id))),
+    }
+}
+
 /// Where a stranger is, if it waits.
 pub(crate) fn place_of(id: AssociationId, stranger: &Stranger) -> Option<Connection>
     ensures { result ≡ place_in_state id stranger.now }
 {
     match stranger {
         Stranger::Waiting {
-            kept,
+            kept: _,
             left: _,
             repeats: _,
-        } => Some(Connection {
-            id,
-            station: kept.station,
-            enb_ue_id: kept.enb_ue_id,
-        }),
+        } => Some(own_place(id)),
         Stranger::Held(_) => None,
     }
 }
@@ -90,5 +103,24 @@ pub(crate) fn leave(connections: &mut Connections, records: &Records, ids: &[Ass
         if records.left(*id).is_none() {
             connections.end_wait(*id);
         }
+    }
+}
+
+// ---- both
+
+/// Those whose association a notice of a station ends are nowhere from now on. Refused, each is where it was.
+pub(crate) fn vacate(connections: &mut Connections, notice: &Notice) -> Result<(), AllocError>
+    requires { is_of_station notice.now ≡ true }
+    ensures whereabouts { OnOk result (connections.new.whereabouts
+        ≡ map (away_from (ended_by notice.now)) connections.old.whereabouts) }
+    ensures strangers { OnOk result ((id : ℕ) → waits_at id connections.new.associations
+        ≡ unless (ended_by notice.now) (waits_at id connections.old.associations)) }
+    ensures room { connections.old.room ≤ connections.new.room }
+    ensures err { OnErr result (connections.new ≡ connections.old) }
+{
+    match notice {
+        Notice::Gone(station) => connections.close_station(*station),
+        Notice::Listed(station, items) => connections.close_listed(*station, items.as_slice()),
+        Notice::Tick => unreachable!(),
     }
 }

@@ -1,12 +1,14 @@
 //! Strangers and subscribers, and the one queue of their countdowns.
 
-ghost use Rattle.std.specs.Prelude.{◌≡◌, ◌+◌, ◌*◌, ◌<◌, ◌≤◌, ◌^◌, ◌++◌, ◌∷◌, ◌↔◌, [], false, length, map, slice_get, IfOk, None, OnErr, OnOk, option_map};
+ghost use Rattle.std.specs.Prelude.{◌≡◌, ◌+◌, ◌*◌, ◌<◌, ◌≤◌, ◌^◌, ◌++◌, ◌∷◌, ◌↔◌, [], false, length, map, slice_get, IfOk, IsSome, None, OnErr, OnOk, option_map, true};
 ghost use Rattle.identity_slots.specs.Ids.{slots};
 ghost use Rattle.mme_tables.specs.Whereabouts.{nowhere};
 ghost use Rattle.emm_machine.specs.Ticks.{countdowns};
 ghost use Rattle.emm_machine.specs.Words.{states_of};
 ghost use Rattle.sorted_list.specs.Ordered.{Every, Rising, put, without};
-ghost use Rattle.stranger_machine.specs.Table.{known_id, noted};
+ghost use Rattle.sorted_list.specs.Sorted.{lowest_from};
+ghost use Rattle.stranger_machine.specs.Machine.{closes, is_of_station};
+ghost use Rattle.stranger_machine.specs.Table.{known_id, noted, stranger_at};
 ghost use Rattle.stranger_machine.specs.declared.turn.Notice.TheVariants.{Tick};
 ghost use Rattle.mme_tables.specs.Waiting.{due_ids, wait_at, wait_of};
 ghost use Rattle.mme_owners.specs.Subscribers.{due_slots, one_less, slots_stepped, tick_settled, with_solo, with_stepped, AreCounting, AreOnward, IsCounting, IsOnwardAt};
@@ -21,7 +23,7 @@ use identity_slots::{AssociationId, ProvisionFault, Slot, Vector};
 use mme_tables::{Connections, Due, Strangers, change_wait, find_due, retime, stop_wait, wait_of};
 use std::alloc::{AllocError, Global};
 use std::marker::Model;
-use stranger_machine::Stranger;
+use stranger_machine::{Notice, Stranger};
 use timer_queue::Timers;
 
 /// Strangers and subscribers, and the queue of their countdowns; a contract sees the clock, each stranger and each subscriber as it
@@ -114,6 +116,22 @@ impl Records {
         ensures { Rising known_id self.now.strangers }
     {
         self.strangers.clock();
+    }
+
+    /// The lowest id of a stranger of at least `least`. The ids rise.
+    pub(crate) fn first_from(&self, least: u64) -> Option<AssociationId>
+        ensures value { result ≡ option_map known_id (lowest_from known_id least self.now.strangers) }
+        ensures order { Rising known_id self.now.strangers }
+    {
+        self.strangers.first_from(least)
+    }
+
+    /// Whether a notice of a station closes the stranger with an id, unless it is closed.
+    pub(crate) fn is_closed_by(&self, id: AssociationId, notice: &Notice) -> bool
+        requires { is_of_station notice.now ≡ true }
+        ensures { IsSome (stranger_at id self.now.strangers) → result ≡ closes id notice.now }
+    {
+        self.strangers.is_closed_by(id, notice)
     }
 
     /// The ticks that T3470 of the stranger with an id has left, if it waits. Takes no memory.

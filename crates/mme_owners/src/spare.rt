@@ -4,16 +4,32 @@ use emm_state::Draft;
 
 /// At most two boxes: one for a state that has a security context, and one for a state that has none, which would have to overwrite
 /// the keys of another phone's context in its box. What the boxes have means nothing.
-#[derive(Drop)]
 pub(crate) struct Spares {
     with_context: Option<Box<Draft>>,
     without: Option<Box<Draft>>,
+}
+
+impl Drop for Spares {
+    fn drop(self) {
+        let Spares {
+            with_context,
+            without,
+        } = self;
+        free_if_any(with_context);
+        free_if_any(without);
+    }
 }
 
 /// A box that nobody needs any more: the keys in it are overwritten before it is freed.
 pub(crate) fn free(left: Box<Draft>) {
     let mut left = left;
     left.solo.forget();
+}
+
+fn free_if_any(left: Option<Box<Draft>>) {
+    if let Some(left) = left {
+        free(left);
+    }
 }
 
 // The box of the first place, or else that of the second.

@@ -7,3 +7,4 @@ pub mod Now
 pub mod Ending
 pub mod Stepping
 pub mod Passing
+pub mod Closed

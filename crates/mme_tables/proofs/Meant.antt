@@ -93,7 +93,7 @@ module _ (ws : List Whereabouts) (es : List Association) (ss : List OrderedSlot)
 
 -- ---- a station
 
-station_is : (e : ℕ) (es : List Association) → at_station e es ≡ filter (λ a. a.station == e) es
+pub station_is : (e : ℕ) (es : List Association) → at_station e es ≡ filter (λ a. a.station == e) es
 station_is e [] = refl
 station_is e (a ∷ es) = ap (λ xs. cond (a.station == e) (a ∷ xs) xs) (station_is e es)
 
@@ -140,7 +140,7 @@ match_is a item =
     ∙ ap (λ b. (is_some item.value.mme_ue_id || is_some item.value.enb_ue_id) && (agrees item.value.mme_ue_id a.id && b))
     (agrees_is item.value.enb_ue_id a.enb_ue_id)
 
-any_listed : (a : Association) (items : ToReset)
+pub any_listed : (a : Association) (items : ToReset)
     → list.is_listed a.id a.enb_ue_id items ≡ list_any (matches a) (map listed_item items)
 any_listed a [] = refl
 any_listed a (item ∷ items) =

@@ -74,6 +74,17 @@ without_stranger (Some a) = unless_stranger a.owner (Some a)
 abbrev pub IsEnded : ℕ → List Association → List Association → Type 0
 IsEnded k es fs = (id : ℕ) → found id fs ≡ (if k == id then without_stranger (found id es) else found id es)
 
+-- ---- slots whose association was closed
+
+-- connected nowhere, if that is so, and paged as before
+abbrev pub disconnected_if : Bool → Whereabouts → Whereabouts
+disconnected_if b w = record { connection = if b then None else w.connection; is_paged = w.is_paged }
+
+-- the slots that pass a test are connected nowhere
+pub record Disconnects (test : ℕ → Bool) (old new : List Whereabouts) : Type 0 where
+  pub many : length new ≡ length old
+  pub each : (i : ℕ) → whereabouts_at i new ≡ disconnected_if (test i) (whereabouts_at i old)
+
 -- ---- what always holds
 
 -- whose connection an association is, if it is a slot's

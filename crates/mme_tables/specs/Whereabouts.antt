@@ -92,3 +92,13 @@ module _ {X : Type 0} where
   abbrev pub slots_where : (X → Bool) → ℕ → List X → List ℕ
   slots_where p n [] = []
   slots_where p n (x ∷ xs) = if p x then n ∷ slots_where p (n + 1) xs else slots_where p (n + 1) xs
+
+-- ---- where a station or a list ends associations
+
+-- a connection, or the place of a stranger, unless it passes a test
+abbrev pub unless : (Option Connection → Bool) → Option Connection → Option Connection
+unless test o = if test o then None else o
+
+-- whose connection passes it is connected nowhere, and paged as before
+abbrev pub away_from : (Option Connection → Bool) → Whereabouts → Whereabouts
+away_from test w = record { connection = unless test w.connection; is_paged = w.is_paged }

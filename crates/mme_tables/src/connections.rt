@@ -1,10 +1,11 @@
 //! The table.
 
-ghost use Rattle.std.specs.Prelude.{◌≡◌, ◌+◌, ◌<◌, ◌≤◌, ◌==◌, ◌++◌, ◌∷◌, ℕ, [], IfOk, None, OnOk, OnErr, Some, if◌then◌else◌, length, slice_set};
+ghost use Rattle.std.specs.Prelude.{◌≡◌, ◌+◌, ◌<◌, ◌≤◌, ◌==◌, ◌++◌, ◌∷◌, ℕ, [], IfOk, None, OnOk, OnErr, Some, if◌then◌else◌, length, map, slice_set};
 ghost use Rattle.identity_slots.specs.Ids.{slots};
 ghost use Rattle.mme_tables.specs.Whereabouts.{slots_where};
-ghost use Rattle.mme_tables.specs.Whereabouts.{nowhere, is_concerned, is_meant, waits_at, AreApart, IsFree, NoneConnected, NoneWaits};
+ghost use Rattle.mme_tables.specs.Whereabouts.{nowhere, away_from, is_concerned, is_meant, is_meant_at, is_there, unless, waits_at, AreApart, IsFree, NoneConnected, NoneWaits};
 
+use crate::closing::disconnect_owners;
 use crate::items::listed_items;
 use crate::opening::{close_stranger, open_stranger, reopen};
 use crate::slots::{OrderedSlot, gather_owners, is_nobody, list_slot, slots_of};
@@ -19,8 +20,8 @@ use std::marker::Model;
 
 /// Where each slot's phone is, and the map of all associations, the connections and the places of waiting strangers: no id stands
 /// twice (`are_apart`). `set` puts a phone on an id that nobody else has, `begin_wait` a stranger, and `end_wait` takes it away,
-/// without memory. `concerned` answers the slots whose phone is connected at a station or is paged, `listed` those whose connection
-/// a RESET means, by rising slot.
+/// without memory. `close_station` takes away all who are at a station, `close_listed` all whom a RESET means. `concerned` answers
+/// the slots whose phone is connected at a station or is paged, `listed` those whose connection a RESET means, by rising slot.
 ///
 /// Contracts see the phones by slot, all associations by id, and for how many changes there is room.
 #[derive(Drop)]
@@ -144,6 +145,40 @@ impl Connections {
         ensures room { self.old.room ≤ self.new.room }
     {
         close_stranger(&mut self.associations, id);
+    }
+
+    /// Nobody is connected at a station from now on, and no stranger waits there; who is paged stays so. Refused, all is as it was.
+    pub fn close_station(&mut self, station: StationNumber) -> Result<(), AllocError>
+        ensures whereabouts { OnOk result (self.new.whereabouts ≡ map (away_from (is_there station)) self.old.whereabouts) }
+        ensures strangers { OnOk result ((id : ℕ) → waits_at id self.new.associations
+            ≡ unless (is_there station) (waits_at id self.old.associations)) }
+        ensures room { self.old.room ≤ self.new.room }
+        ensures err { OnErr result (self.new ≡ self.old) }
+    {
+        let closed = self.associations.close_station(station.get())?;
+        disconnect_owners(&mut self.by_slot, closed.as_slice());
+        Ok(())
+    }
+
+    /// Whom a RESET of a part of a station means is connected nowhere from now on, or waits nowhere (TS 36.413 clause 8.7.1.2.2);
+    /// who is paged stays so. Refused, all is as it was.
+    pub fn close_listed(
+        &mut self,
+        station: StationNumber,
+        items: &[AssociationToReset],
+    ) -> Result<(), AllocError>
+        ensures whereabouts { OnOk result (self.new.whereabouts
+            ≡ map (away_from (is_meant_at station items.now)) self.old.whereabouts) }
+        ensures strangers { OnOk result ((id : ℕ) → waits_at id self.new.associations
+            ≡ unless (is_meant_at station items.now) (waits_at id self.old.associations)) }
+        ensures room { self.old.room ≤ self.new.room }
+        ensures err { OnErr result (self.new ≡ self.old) }
+    {
+        let items = listed_items(self.alloc, items)?;
+        let associations = &mut self.associations;
+        let closed = associations.close_listed(station.get(), items.as_slice())?;
+        disconnect_owners(&mut self.by_slot, closed.as_slice());
+        Ok(())
     }
 
     /// The slots that the loss of a station concerns, by rising slot: those with a connection there, and those for which a

@@ -7,6 +7,7 @@
 //! sees it as it is now. Room is made before a change: a phone that comes, moves or goes takes no memory.
 #![tactic(auto)]
 
+mod closing;
 mod connections;
 mod due;
 mod items;

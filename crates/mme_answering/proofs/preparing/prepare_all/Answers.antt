@@ -8,7 +8,7 @@ use Rattle.mme_answering.specs.declared.out.Out.{Out}
 use Rattle.mme_answering.specs.Settled.{item_sent}
 use Rattle.mme_answering.specs.Sending.{each_sent}
 use Rattle.mme_answering.proofs.Known.{none_known}
-use Rattle.mme_answering.proofs.Places.{keep_all}
+use Rattle.mme_answering.proofs.Places.{noticed_are, outlive_all}
 use Rattle.mme_answering.proofs.Sent.{sends_same}
 use Rattle.mme_answering.proofs.Stepping.{touched_fit, touched_send, touches_all}
 use Rattle.mme_answering.proofs.preparing.prepare_all.Goals as goal
@@ -40,7 +40,13 @@ returns-clause-prepares c =
           ∙ ap (λ (os : List Out). outs ++ (os ++ own)) (sym (none_known notice ks c.requires.station));
       strangers = refl;
       subscribers = touches_all item xs.items ws (done.slots ∙ due) each;
-      fits = (fit.0, fit.1, c.requires.station, keep_all c.connections_come_so.ensures notice ws xs.items each);
+      fits = (
+        fit.0,
+        fit.1,
+        c.requires.station,
+        outlive_all c.connections_come_so.ensures notice ws xs.items each,
+        done.slots ∙ due ∙ noticed_are notice ws c.requires.station,
+      );
       passing = tt;
     }) c.prepare_each.ensures.prepares
 

@@ -37,9 +37,13 @@ pub settle_turn-requires-clause-apart : goal.settle_turn-requires-clause-apart
 settle_turn-requires-clause-apart c =
     apart_there c.in-Stranger.is c.reserve.ensures.strangers c.reserve.ensures.subscribers c.requires.apart
 
-pub settle_noticed-requires-clause-fits : goal.settle_noticed-requires-clause-fits
-settle_noticed-requires-clause-fits c =
-    (for_there c.in-Everyone.is c.reserve.ensures.strangers c.reserve.ensures.subscribers c.requires.fits).0
+pub settle_noticed-requires-clause-counting : goal.settle_noticed-requires-clause-counting
+settle_noticed-requires-clause-counting c =
+    (for_there c.in-Everyone.is c.reserve.ensures.strangers c.reserve.ensures.subscribers c.requires.fits).0.1
+
+pub settle_noticed-requires-clause-onward : goal.settle_noticed-requires-clause-onward
+settle_noticed-requires-clause-onward c =
+    (for_there c.in-Everyone.is c.reserve.ensures.strangers c.reserve.ensures.subscribers c.requires.fits).0.2
 
 pub tick-requires-clause-onward : goal.tick-requires-clause-onward
 tick-requires-clause-onward c =

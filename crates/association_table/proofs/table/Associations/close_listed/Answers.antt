@@ -15,3 +15,18 @@ returns-clause-entries c =
     (rising_entries c.self.inside.slab c.self.inside.by_id.items c.self.invariant.0.rising) in
     c.close_all.ensures.entries ∙ ap (λ gs. closed_all gs es) c.in_ok-gathered.ensures
     ∙ closed_filter (is_listed c.args.station c.args.items.now) es order
+
+pub returns-in_err-gathered-clause-order : goal.returns-in_err-gathered-clause-order
+returns-in_err-gathered-clause-order c =
+    subst (λ (v : Table). Rising association_id v.entries) c.self.view_is
+    (rising_entries c.self.inside.slab c.self.inside.by_id.items c.self.invariant.0.rising)
+
+pub returns-in_err-listed-clause-order : goal.returns-in_err-listed-clause-order
+returns-in_err-listed-clause-order c =
+    subst (λ (v : Table). Rising association_id v.entries) c.self.view_is
+    (rising_entries c.self.inside.slab c.self.inside.by_id.items c.self.invariant.0.rising)
+
+pub returns-clause-order : goal.returns-clause-order
+returns-clause-order c =
+    subst (λ (v : Table). Rising association_id v.entries) c.self.view_is
+    (rising_entries c.self.inside.slab c.self.inside.by_id.items c.self.invariant.0.rising)

@@ -1,0 +1,5 @@
+pub mod Images
+pub mod Restored
+pub mod Buildings
+pub mod Saved
+pub mod Stored

@@ -1,0 +1,5 @@
+pub mod Formats
+pub mod Numbers
+pub mod Heads
+pub mod Contexts
+pub mod Subscribers

@@ -1,0 +1,5 @@
+use Rattle.std.proofs.Common.{◌≡◌, ℕ, map, take}
+use Rattle.snapshot_states.proofs.saving.stations_of.Given as goal
+
+abbrev pub invariant-loop-station : goal.invariant-loop-station
+invariant-loop-station l = l.numbers.items ≡ map (λ (e : ℕ). e) (take l.station-index l.stations)

@@ -1,0 +1,5 @@
+pub mod States
+pub mod Fit
+pub mod Fitting
+pub mod Saving
+pub mod SavingLaws
