@@ -475,7 +475,8 @@ class Whole(unittest.TestCase):
     def test_an_end_between(self):
         """Where the front ends, it is said how much was given that is known to stand in the log."""
         lines = ["sub %015d %08x 0a000064 %08x" % (place * 10, place, place) for place in range(1, 1001)]
-        for turns, kept in ((0, 0), (2, 400)):
+        for turns in (0, 2):
+            kept = turns * limits.ADDED_LINES
             with self.subTest(kept=kept), unittest.mock.patch.object(limits, "ADDING_SECONDS", 60):
                 self.setUp()
                 self.give("\n".join(lines))
@@ -487,7 +488,7 @@ class Whole(unittest.TestCase):
                 self.front.giving.refuse("the front ends")
                 self.assertEqual(self.replies, ["refused: the front ends: at least the first %d of 1000 lines were given" % kept])
                 self.turn()
-                self.assertEqual(sum(map(len, self.batches)), kept + 200)
+                self.assertEqual(sum(map(len, self.batches)), kept + limits.ADDED_LINES)
 
     def test_an_end_before(self):
         """Where it ends before all lines were looked at, nothing was given."""
