@@ -237,7 +237,7 @@ class Makes(InOneStore):
         names, rests = self.named(), 0
         for _ in range(6):
             maker = Beside(self, self.members, *OFTEN, changes=("parted",))
-            maker.until(lambda: max(self.parts()) > names[-1] and len(self.parts()[max(self.parts())]) > 1)
+            maker.until(lambda: any(number > names[-1] and len(parts) > 1 for number, parts in self.parts().items()))
             time.sleep(chance.random() * 0.1)
             maker.killed()
             rests += self.named() == names
