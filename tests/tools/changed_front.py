@@ -3,6 +3,7 @@
 
     hurried    a standby leads after a shorter silence, which is still many ticks of a test; the store's size is looked at often
     hasty      a silence that is shorter still, so that a leader on a busy machine may be taken to be gone
+    lenient    a longer silence, in which a leader begins on a busy machine too
     patient    a leader waits longer for the store, as tests have to on a machine with other work
     brief      few lines are given at a time, and a leader waits a shorter time for the store
     ahead      its time of day is an hour later
@@ -28,7 +29,7 @@ if __name__ == "__main__":
     sys.path.append(str(TOP / "python"))
 from tools.fronting import command, crowd, exchange, front, limits, resuming, standby, stored, storing
 
-SILENCE_SECONDS, SHORTER, UNCOMMITTED_SECONDS = 1, 0.3, 60
+SILENCE_SECONDS, SHORTER, LONGER, UNCOMMITTED_SECONDS = 1, 0.3, 15, 60
 HANGING_SECONDS, HELD_SECONDS, RESTLESS_SECONDS, BRIEF_SECONDS = 1, 30, 0.05, 2
 PART_OCTETS, PART_SECONDS, PREMATURE_SECONDS = 64, 0.02, 5
 
@@ -39,6 +40,10 @@ def hurried():
 
 def hasty():
     limits.SILENCE_SECONDS = SHORTER
+
+
+def lenient():
+    limits.SILENCE_SECONDS = LONGER
 
 
 def patient():
@@ -112,8 +117,8 @@ def hanging():
     crowd.Crowd.put = hangs
 
 
-CHANGES = {change.__name__: change for change in (hurried, hasty, patient, brief, ahead, unheld, unfenced, waiting, restless,
-                                              parted, greedy, premature, hanging)}
+CHANGES = {change.__name__: change for change in (hurried, hasty, lenient, patient, brief, ahead, unheld, unfenced, waiting,
+                                              restless, parted, greedy, premature, hanging)}
 
 if __name__ == "__main__":
     while sys.argv[1] in CHANGES:

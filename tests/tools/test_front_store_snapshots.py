@@ -44,8 +44,8 @@ for request in sys.stdin:
 class InStore(Stored):
     """A front whose MME can be saved, which leads."""
 
-    def __init__(self, test, members, *words, changes=(), **named):
-        super().__init__(test, members, *words, front=(SAVED, *changes, "hurried", "patient"),
+    def __init__(self, test, members, *words, changes=(), silence="hurried", **named):
+        super().__init__(test, members, *words, front=(SAVED, *changes, silence, "patient"),
                          **{"program": LIBRARY, "head": PROVISIONED, **named})
 
     state, says, challenges = Saved.state, Saved.says, Saved.challenges
@@ -483,7 +483,7 @@ class Upgrades(InOneStore):
         """One that follows at such a snapshot ends where another version writes a turn, to be started again."""
         self.ended()
         self.is_of(self.OLDER)
-        standby = Beside(self, self.members, *NEVER)
+        standby = Beside(self, self.members, *NEVER, silence="lenient")
         last = self.members.last()
         self.put("turn/%016x" % (last.number + 1), b"tick 1\n")
         self.put("last", last._replace(number=last.number + 1).octets())
@@ -495,7 +495,7 @@ class Upgrades(InOneStore):
         """One that stands by goes on following where the version changes to its own."""
         self.ended()
         self.is_of(self.OLDER)
-        standby = Beside(self, self.members, *NEVER)
+        standby = Beside(self, self.members, *NEVER, silence="lenient")  # (nobody leads at first)
         leader = InStore(self, self.members, *NEVER)
         leader.says(3, leader.station())
         self.check_leads(leader, standby, 13)
