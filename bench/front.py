@@ -61,6 +61,7 @@ UNDER_WAY = 512  # messages that all stations together keep under way, but at le
 RATE, QUIET_RATE, PHONES = 20000, 100, 500
 STORED_RATE, STORED_STATIONS, LAGS = 5000, 20, 40
 PAGED_RATE, PAGED_STATIONS, SUBSCRIBERS, CLIENTS = 1000, 20, 32768, 64
+PAGED_TICKS = 20  # until the last paging's T3413 and its repeat have ended
 ALONE, VECTORS = 30, 8  # vectors that are given by themselves, and of each subscriber
 TICKS = os.sysconf("SC_CLK_TCK")
 AT_WILL = ("--rate", "1000000")
@@ -419,7 +420,8 @@ def restart(given):
 
 
 def long_log(room, given):
-    """A log in which all subscribers attach and are released, and data waits for each again and again; how many lines it has."""
+    """A log in which all subscribers attach and are released, and data waits for each again and again, until no paging is sent any
+    more; how many lines it has."""
     trace, station, made = attached.provisioned(SUBSCRIBERS, 1 + given.vectors)
     for phone in made:
         phone.attaches(station, phone.slot + 1)
@@ -434,8 +436,8 @@ def long_log(room, given):
         rounds = max(0, given.lines - len(events)) // len(made)
         for _ in range(rounds):
             counts.write(each)
-        counts.write("# settled until segment 1, octet 0\n")
-    return len(events) + rounds * len(made)
+        counts.write("tick %d\n# settled until segment 1, octet 0\n" % PAGED_TICKS)
+    return len(events) + rounds * len(made) + 1
 
 
 def started(room, what, lines, *words):

@@ -11,6 +11,7 @@ mod messages;
 mod passing;
 mod subscriber;
 
+pub use emm_network::connection_of;
 pub use identity_slots::{
     AssociationId, GivenKasme, Profile, Slot, StationNumber, Vector, Vectors, Xres,
 };

@@ -2,7 +2,6 @@
 
 ghost use Rattle.std.specs.Prelude.{◌≡◌};
 ghost use Rattle.emm_machine.specs.Messages.{checked, message_of, on_connection};
-ghost use Rattle.emm_machine.specs.Still.{is_idle};
 ghost use Rattle.emm_state.specs.Does.{Does};
 ghost use Rattle.emm_state.specs.Taking.{vectors_spent};
 ghost use Rattle.identity_slots.specs.Spending.{HasFrom};
@@ -65,20 +64,6 @@ fn checked(
             RadioNetworkCause::UnknownPairUeS1apId,
             message,
         ))
-    }
-}
-
-/// Whether a message is UE CONTEXT RELEASE COMPLETE or, on the connection, what a station only tells.
-pub(crate) fn is_idle(draft: &Draft, message: &UeMessage<&[u8]>) -> bool
-    ensures { result ≡ is_idle (message_lists message.now).body (message_lists message.now) draft.now.solo }
-{
-    match message.body {
-        UeBody::UeContextReleaseComplete => true,
-        UeBody::Notice => has_connection_id(draft, message) && has_pair(draft, message),
-        UeBody::Uplink { nas: _, tai: _ }
-        | UeBody::UeContextReleaseRequest { cause: _ }
-        | UeBody::InitialContextSetupFailure
-        | UeBody::PathSwitch => false,
     }
 }
 

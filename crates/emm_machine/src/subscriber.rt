@@ -2,28 +2,25 @@
 
 ghost use Rattle.std.specs.Prelude.{◌≡◌, ◌≢◌, ◌↔◌, ◌≤◌, Err, IfErr, IfOk, OnErr, OnOk, is_some, length, min, option_map, slice_get, true};
 ghost use Rattle.emm_state.specs.Does.{Does};
-ghost use Rattle.mme_types.specs.Events.{Message, item_of, message_lists};
+ghost use Rattle.mme_types.specs.Events.{item_of};
 ghost use Rattle.identity_slots.specs.Spending.{HasFrom};
 ghost use Rattle.identity_slots.specs.declared.provision.ProvisionFault.TheVariants.{Full, NoMemory};
 ghost use Rattle.emm_state.specs.Taking.{vectors_spent, IsOnward};
 ghost use Rattle.emm_machine.specs.Forgetting.{goes_on, left_for};
 ghost use Rattle.emm_machine.specs.Given.{is_stocked, with_given};
 ghost use Rattle.emm_machine.specs.Steps.{row, solo_step, spent};
-ghost use Rattle.emm_machine.specs.Still.{still};
 ghost use Rattle.emm_machine.specs.Ticks.{AreAbove, countdowns, ticks_after};
 ghost use Rattle.emm_machine.specs.Words.{ecm_of, emm_of, fresh_solo, pages_in, states_of};
 
 use crate::laws::in_use_is_kept;
-use crate::messages::{is_idle, message_of};
+use crate::messages::message_of;
 use crate::passing::age;
 use emm_network::{cancelled, connections_gone, data_waits, displaced, station_gone, tick};
 use emm_state::{Asked, Context, Counter, Draft, Phase, Repeat, Setting, Solo, StepStop, or_stop};
 use emm_uplink::{claim, initial};
 use esm_machine::{Bearer, BearerState};
 use identity_slots::{KeptVectors, Profile, ProvisionFault, Slot, Vector, Vectors};
-use mme_types::{
-    Answers, Connection, EnbWorld, SharedNetwork, SoloEvent, StationNumber, UeMessage,
-};
+use mme_types::{Answers, Connection, EnbWorld, SharedNetwork, SoloEvent, StationNumber};
 use nas_elements::UeCapability;
 use per_bits::Octets;
 use s1ap_elements::{Cause, NasCause, Tai};
@@ -409,16 +406,6 @@ impl Subscriber {
         ensures { result ≡ is_some self.now.solo.context }
     {
         self.state.solo.context.is_some()
-    }
-
-    /// Whether a message changes and sends nothing (`still`), by a look at two or three fields: so UE CONTEXT RELEASE COMPLETE, and
-    /// what a station only reports on the phone's connection.
-    ///
-    /// Takes no memory.
-    pub fn is_still(&self, message: &UeMessage<&[u8]>) -> bool
-        ensures { result ≡ still self.now.solo (Message (message_lists message.now)) }
-    {
-        is_idle(&self.state, message)
     }
 
     /// The connection: its association, station and eNB UE S1AP ID.

@@ -55,8 +55,8 @@ fn hop(context: &mut Context) -> (NextHop, u8)
     (hop, count)
 }
 
-// The connection that a path switch leads to.
-fn connection_of(message: &UeMessage<&[u8]>) -> Connection
+/// The connection that a message names: the one that a path switch leads to.
+pub fn connection_of(message: &UeMessage<&[u8]>) -> Connection
     ensures { result ≡ connection_of (message_lists message.now) }
 {
     Connection {

@@ -7,6 +7,7 @@ mod connected;
 mod idle;
 
 pub use connected::{
-    connections_gone, displaced, has_connection_id, has_pair, indicate, path_switch, station_gone,
+    connection_of, connections_gone, displaced, has_connection_id, has_pair, indicate, path_switch,
+    station_gone,
 };
 pub use idle::{cancelled, data_waits, tick};

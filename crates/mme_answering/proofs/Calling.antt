@@ -1,6 +1,7 @@
 -- A call of one and of nobody.
 use Rattle.std.proofs.Common.{◌≡◌, ◌≢◌, ℕ, suc, zero, ◌+◌, ◌≤◌, List, [], ◌∷◌, ◌++◌, length, set, map, true, Option, Some, None, refl, sym, ◌∙◌, ap, arith}
-use Rattle.std.specs.Prelude.{slice_get, option_map}
+use Rattle.std.specs.Prelude.{slice_get, false}
+use Rattle.std.specs.Option.{option_map_or}
 use Rattle.std.proofs.lemmas.Bool.Decides.{nat_tests}
 use Rattle.std.proofs.lemmas.List.{append-nil}
 use Rattle.mme_types.specs.Events.{Item, Message, Nothing}
@@ -124,11 +125,11 @@ seen_is_still _ w h = cc
 
 -- a slot whose subscriber is as it was, and sends nothing
 still_if : (slot : ℕ) (item : Item) (ws : List SubscriberView) (o : Option SubscriberView) → slice_get ws slot ≡ o
-    → option_map (is_seen_still item) o ≡ Some true
+    → option_map_or (is_seen_still item) o false ≡ true
     → (each_after (for_one slot item) 0 ws ≡ ws) × (each_sent (for_one slot item) 0 ws ≡ [])
 still_if slot item ws None at h = cc
 still_if slot item ws (Some w) at h =
-    let none : still w.solo item ≡ true = seen_is_still item w cc in
+    let none : still w.solo item ≡ true = seen_is_still item w h in
     let stays : subscriber_step w item ≡ untouched w.solo = still_stays w.setting w.solo item none in (
       sym (after_call slot item ws w at) ∙ ap (λ d. set ws slot (record { setting = w.setting; solo = d.solo })) stays
           ∙ set_own ws slot w at,
@@ -136,6 +137,6 @@ still_if slot item ws (Some w) at h =
     )
 
 pub call_still : (slot : ℕ) (item : Item) (ws : List SubscriberView)
-    → option_map (is_seen_still item) (slice_get ws slot) ≡ Some true
+    → option_map_or (is_seen_still item) (slice_get ws slot) false ≡ true
     → (each_after (for_one slot item) 0 ws ≡ ws) × (each_sent (for_one slot item) 0 ws ≡ [])
 call_still slot item ws h = still_if slot item ws (slice_get ws slot) refl h

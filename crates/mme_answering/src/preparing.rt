@@ -2,7 +2,8 @@
 //!
 //! A call that isn't one of each step stands out of line (`inline(never)`), so that a step doesn't clear its locals.
 
-ghost use Rattle.std.specs.Prelude.{◌≡◌, ◌<◌, ◌++◌, List, length, option_map, slice_get, IfOk, OnOk, OnErr, Some, false, true};
+ghost use Rattle.std.specs.Prelude.{◌≡◌, ◌<◌, ◌++◌, List, length, slice_get, IfOk, OnOk, OnErr, false, true};
+ghost use Rattle.std.specs.Option.{option_map_or};
 ghost use Rattle.identity_slots.specs.declared.profile.Profile.{Profile};
 ghost use Rattle.mme_types.specs.declared.stations.StationState.{StationState};
 ghost use Rattle.mme_types.specs.Events.{entry_lists, item_of, message_lists};
@@ -91,20 +92,7 @@ fn prepare_each(
     Ok(stepped)
 }
 
-// Whether a look at a slot's subscriber tells that an event leaves it as it is and that nothing is sent: a message alone is
-// looked at.
-fn is_still(subscribers: &Subscribers, slot: Slot, event: &SoloEvent) -> bool
-    requires { slot < length subscribers.now.subscribers }
-    ensures { (stations : List StationState) → option_map (is_seen_still (item_of event.now stations))
-        (slice_get subscribers.now.subscribers slot) ≡ Some result }
-{
-    match event {
-        SoloEvent::Message(message) => subscribers.is_still(slot, message),
-        _ => false,
-    }
-}
-
-// The step of one, if its slot is provisioned and the event may do something.
+// The step of one, if its slot is provisioned.
 fn prepare_one(
     alloc: Global,
     subscribers: &mut Subscribers,
@@ -124,11 +112,46 @@ fn prepare_one(
     if place >= subscribers.len() {
         return Ok(None);
     }
-    if is_still(subscribers, slot, event) {
-        return Ok(None);
-    }
     let one = prepare_step(alloc, subscribers, slot, event, stations, outs)?;
     Ok(Some(one))
+}
+
+// Whether a slot is provisioned, and a look at its connection tells that an event leaves its subscriber as it is and that nothing
+// is sent: a message alone is looked at.
+fn is_still(owners: &Owners, slot: Slot, event: &SoloEvent) -> bool
+    ensures { (stations : List StationState) → result
+        ≡ option_map_or (is_seen_still (item_of event.now stations)) (slice_get owners.now.subscribers slot) false }
+{
+    if slot.get() as usize >= owners.len() {
+        return false;
+    }
+    match event {
+        SoloEvent::Message(message) => owners.is_still(slot, message),
+        _ => false,
+    }
+}
+
+// The step of the one whose slot an event goes to, if the slot is provisioned and the event may do something.
+fn prepare_own(
+    alloc: Global,
+    owners: &mut Owners,
+    slot: Slot,
+    event: &SoloEvent,
+    stations: &EnbWorld,
+    outs: &mut Outs,
+) -> Result<Option<Stepped>, AllocError>
+    requires { AreInUse owners.old.subscribers }
+    ensures prepares { IfOk result
+        (λ x. PreparesOne (for_one slot (item_of event.now stations.now)) owners.old.subscribers outs.old outs.new x) }
+    ensures err { OnErr result
+        (SendsSome (each_sent (for_one slot (item_of event.now stations.now)) 0 owners.old.subscribers) outs.old outs.new) }
+    ensures same { owners.new ≡ owners.old }
+{
+    if is_still(owners, slot, event) {
+        return Ok(None);
+    }
+    let subscribers = &mut owners.records.subscribers;
+    prepare_one(alloc, subscribers, slot, event, stations, outs)
 }
 
 // The step of the one whom a stranger calls, if it calls.
@@ -421,7 +444,7 @@ pub fn prepare<'a>(
     match destination {
         Destination::Nobody => Ok(Prepared::Nobody),
         Destination::Subscriber(slot, event) => {
-            match prepare_one(alloc, subscribers, slot, &event, stations, outs)? {
+            match prepare_own(alloc, owners, slot, &event, stations, outs)? {
                 Some(stepped) => Ok(Prepared::Subscriber(stepped)),
                 None => Ok(Prepared::Nobody),
             }

@@ -5,13 +5,9 @@ use Rattle.std.proofs.lemmas.List.{length_push, map-append}
 use Rattle.std.proofs.lemmas.Option.{slice_get-map, slice_get_past, slice_get_read}
 use Rattle.std.specs.Prelude.{IfOk, Result, Ok, Err, get_or, set}
 use Rattle.identity_slots.specs.Ids.{slots}
-use Rattle.mme_types.specs.declared.event.UeBody.{UeBody}
-use Rattle.mme_types.specs.declared.event.UeBody.TheVariants.{Uplink, UeContextReleaseRequest, UeContextReleaseComplete, InitialContextSetupFailure, PathSwitch, Notice}
-use Rattle.mme_types.specs.declared.event.UeMessage.{UeMessage}
-use Rattle.mme_types.specs.Events.{Item, Message}
+use Rattle.mme_types.specs.Events.{Item}
 use Rattle.emm_state.specs.declared.setting.Setting.{Setting}
 use Rattle.emm_state.specs.declared.solo.Solo.{Solo}
-use Rattle.emm_machine.specs.Still.{is_idle, still}
 use Rattle.emm_machine.specs.SubscriberView.{SubscriberView}
 use Rattle.emm_machine.specs.Words.{states_of}
 use Rattle.emm_machine.specs.Ticks.{AreAbove, IsAbove, both_less, countdowns, less, solo_aged, ticks_after}
@@ -341,26 +337,6 @@ pub lent_seen : (c k : ℕ) (rs : List Record) (r : Record) → IsSubscriberTabl
 lent_seen c k rs r t lt e =
     let f = fresh_slot c k rs r t.fresh lt e in
     view_slot c k rs r lt e ∙ ap (λ (s : Solo). Some (record { setting = r.subscriber.setting; solo = s })) (seen_aged c r f)
-
-idle_aged : (n : ℕ) (solo : Solo) (m : UeMessage (List ℕ)) (body : UeBody (List ℕ))
-    → is_idle body m (solo_aged n solo) ≡ is_idle body m solo
-unfolding solo_aged
-idle_aged n solo m UeContextReleaseComplete = refl
-idle_aged n solo m Notice = refl
-idle_aged n solo m (Uplink nas tai) = refl
-idle_aged n solo m (UeContextReleaseRequest cause) = refl
-idle_aged n solo m InitialContextSetupFailure = refl
-idle_aged n solo m PathSwitch = refl
-
-pub still_seen : (c k : ℕ) (rs : List Record) (r : Record) (m : UeMessage (List ℕ)) → IsSubscriberTable c rs
-    → k < length rs → r ≡ get_or rs k r
-    → option_map (λ (w : SubscriberView). still w.solo (Message m)) (slice_get (views c rs) k)
-    ≡ Some (still r.subscriber.solo (Message m))
-still_seen c k rs r m t lt e =
-    let f = fresh_slot c k rs r t.fresh lt e in
-    ap (option_map (λ (w : SubscriberView). still w.solo (Message m))) (view_slot c k rs r lt e)
-    ∙ ap (λ s. Some (still s (Message m))) (seen_aged c r f)
-    ∙ ap Some (idle_aged (c - r.touched) r.subscriber.solo m m.body)
 
 pub states_past : (c k : ℕ) (rs : List Record) → length rs ≤ k
     → option_map (λ (w : SubscriberView). states_of w.solo) (slice_get (views c rs) k) ≡ None

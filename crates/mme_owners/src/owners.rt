@@ -1,9 +1,10 @@
 //! Strangers and subscribers, the one queue of their countdowns, and the one map of their associations.
 
-ghost use Rattle.std.specs.Prelude.{◌≡◌, ◌+◌, ◌*◌, ◌<◌, ◌≤◌, ◌==◌, ◌^◌, ◌++◌, ◌∷◌, ◌↔◌, ℕ, [], false, length, map, slice_get, if◌then◌else◌, IfOk, IsSome, None, OnErr, OnOk, option_map, true};
+ghost use Rattle.std.specs.Prelude.{◌≡◌, ◌+◌, ◌*◌, ◌<◌, ◌≤◌, ◌==◌, ◌^◌, ◌++◌, ◌∷◌, ◌↔◌, ℕ, [], false, length, map, slice_get, if◌then◌else◌, IfOk, IsSome, None, OnErr, OnOk, Some, option_map, true};
 ghost use Rattle.identity_slots.specs.Ids.{slots, station_in};
 ghost use Rattle.mme_tables.specs.Whereabouts.{nowhere, waits_at, NoneConnected};
-ghost use Rattle.mme_types.specs.Events.{ConnectionsGone, StationGone};
+ghost use Rattle.mme_types.specs.Events.{ConnectionsGone, Message, StationGone, message_lists};
+ghost use Rattle.emm_machine.specs.Still.{still};
 ghost use Rattle.emm_machine.specs.Ticks.{countdowns};
 ghost use Rattle.emm_machine.specs.Words.{states_of};
 ghost use Rattle.sorted_list.specs.Ordered.{Every, Rising, without};
@@ -26,10 +27,10 @@ use crate::noticed::note;
 use crate::placing::{leave, place, place_all, place_of, vacate};
 use crate::records::Records;
 use crate::stepped::Stepped;
-use emm_machine::{States, Subscriber};
+use emm_machine::{States, Subscriber, connection_of};
 use identity_slots::{AssociationId, ProvisionFault, Slot, Vector};
 use mme_tables::{Connections, Due};
-use mme_types::{Connection, StationNumber};
+use mme_types::{Connection, StationNumber, UeBody, UeMessage};
 use s1ap_elements::AssociationToReset;
 use std::alloc::{AllocError, Global};
 use std::marker::Model;
@@ -37,10 +38,10 @@ use stranger_machine::{After, Notice};
 
 /// Strangers and subscribers; one queue has exactly the countdowns that run (`AreRecords`), and one map the associations
 /// (`ArePlaced`). `is_due` says whether the next tick ends a countdown, `due` gives whose; `pass` is a tick that ends none.
-/// `concerned` and `listed` answer, by a look at their state, the slots that the loss of a station, or its RESET of a part, may
-/// change (`touched_slots`). `settle`, `settle_turn`, `settle_noticed` and `tick` take no memory if there is room, except for a new
-/// stranger and to close what a notice ends; they take countdowns of 1 to 3480 ticks and states that ask for no spent vector
-/// (`AreOnward`), as all prepared ones are.
+/// `is_still` says whether a look tells that a message changes nothing; `concerned` and `listed` answer, likewise, the slots that
+/// the loss of a station, or its RESET of a part, may change (`touched_slots`). `settle`, `settle_turn`, `settle_noticed` and
+/// `tick` take no memory if there is room, except for a new stranger and to close what a notice ends; they take countdowns of 1
+/// to MOBILE_REACHABLE_TICKS and states that ask for no spent vector (`AreOnward`), as all prepared ones are.
 ///
 /// A contract sees the clock, each stranger and each subscriber as it is now, and for how many countdowns and changes of
 /// associations there is room.
@@ -169,6 +170,23 @@ impl Owners {
         ensures { option_map lent_now result ≡ slice_get self.entry.now.subscribers slot }
     {
         self.records.subscribers.look(slot)
+    }
+
+    /// Whether a message leaves a slot's subscriber as it is and nothing is sent for it (`still`): so UE CONTEXT RELEASE COMPLETE,
+    /// and what a station only reports on the phone's connection, which is found by its MME UE S1AP ID. Takes no memory.
+    pub fn is_still(&self, slot: Slot, message: &UeMessage<&[u8]>) -> bool
+        requires { slot < length self.now.subscribers }
+        ensures { option_map (λ w. still w.solo (Message (message_lists message.now))) (slice_get self.now.subscribers slot)
+            ≡ Some result }
+    {
+        match message.body {
+            UeBody::UeContextReleaseComplete => true,
+            UeBody::Notice => self.connections.has(slot, &connection_of(message)),
+            UeBody::Uplink { nas: _, tai: _ }
+            | UeBody::UeContextReleaseRequest { cause: _ }
+            | UeBody::InitialContextSetupFailure
+            | UeBody::PathSwitch => false,
+        }
     }
 
     /// Whether the next tick ends somebody's countdown. Only the front of the queue is looked at; takes no memory.

@@ -2,9 +2,8 @@
 
 ghost use Rattle.std.specs.Prelude.{◌≡◌, ◌+◌, ◌<◌, ◌≤◌, ◌^◌, ◌++◌, ◌∷◌, [], length, slice_get, IfOk, OnErr, OnOk, Some, None, option_map};
 ghost use Rattle.identity_slots.specs.Ids.{slots};
-ghost use Rattle.mme_types.specs.Events.{Message, item_of, message_lists};
+ghost use Rattle.mme_types.specs.Events.{item_of};
 ghost use Rattle.mme_tables.specs.Whereabouts.{nowhere};
-ghost use Rattle.emm_machine.specs.Still.{still};
 ghost use Rattle.emm_machine.specs.Ticks.{countdowns};
 ghost use Rattle.emm_machine.specs.Words.{states_of};
 ghost use Rattle.sorted_list.specs.Ordered.{Every};
@@ -22,7 +21,7 @@ use emm_machine::{States, Subscriber};
 use emm_state::Draft;
 use identity_slots::{ProvisionFault, Slot, Vector};
 use mme_tables::Connections;
-use mme_types::{EnbWorld, SoloEvent, UeMessage};
+use mme_types::{EnbWorld, SoloEvent};
 use std::alloc::{AllocError, Global};
 use std::marker::Model;
 
@@ -85,7 +84,7 @@ fn settle_all(records: &mut Vec<Record>, clock: u64, stepped: Vec<Stepped>)
     }
 }
 
-/// Subscribers by slot: `states`, `is_still` and `prepare` answer what the list says, and `prepare` doesn't change it. `give` is
+/// Subscribers by slot: `states` and `prepare` answer what the list says, and `prepare` doesn't change it. `give` is
 /// refused as full exactly if the subscriber takes no more vectors. `settle` and `tick` leave the prepared states, and at a tick
 /// each other subscriber with a tick less, without memory.
 ///
@@ -184,17 +183,6 @@ impl Subscribers {
             subscriber: &own.subscriber,
             slept: clock - own.touched,
         })
-    }
-
-    /// Whether a message leaves a slot's subscriber as it is and nothing is sent for it, by a look at the connection; takes no
-    /// memory.
-    pub fn is_still(&self, slot: Slot, message: &UeMessage<&[u8]>) -> bool
-        requires { slot < length self.now.subscribers }
-        ensures { option_map (λ w. still w.solo (Message (message_lists message.now))) (slice_get self.now.subscribers slot)
-            ≡ Some result }
-    {
-        let place = slot.get() as usize;
-        self.records[place].subscriber.is_still(message)
     }
 
     /// What an event would leave and send for a slot; nothing changes.

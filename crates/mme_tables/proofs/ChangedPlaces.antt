@@ -1,5 +1,5 @@
 -- The table after a change.
-use Rattle.std.proofs.Common.{◌≡◌, ◌≢◌, ◌≤◌, ◌<◌, ℕ, zero, suc, List, [], ◌∷◌, ◌++◌, length, get_or, set, Bool, true, false, cond, Option, Some, None, refl, sym, ◌∙◌, ap, subst, arith}
+use Rattle.std.proofs.Common.{◌≡◌, ◌≢◌, ◌↔◌, ◌≤◌, ◌<◌, ℕ, zero, suc, List, [], ◌∷◌, ◌++◌, length, get_or, set, Bool, true, false, cond, Option, Some, None, refl, sym, ◌∙◌, ap, subst, arith}
 use Rattle.std.specs.Prelude.{◌==◌, if◌then◌else◌, option_map, IsOk, IsSome, OnOk, Result, Ok, Err}
 use Rattle.std.proofs.lemmas.Bool.{eq-eqb, eqb-true}
 use Rattle.std.proofs.lemmas.Bool.Decides.{nat_tests}
@@ -32,6 +32,11 @@ one_owner : (i j : ℕ) (k l : Connection) (o : Option Association) → o ≡ So
 unfolding owner_slot
 one_owner i j k l o a b =
     ap (λ (x : Association). owner_slot x.owner) (same_Some (association_of i k) (association_of j l) (sym a ∙ b))
+
+-- an association is a slot's exactly where the slot has that connection
+pub is_own : (ws : List Whereabouts) (es : List Association) (slot : ℕ) (k : Connection) → IsMap ws es
+    → (found k.id es ≡ Some (association_of slot k)) ↔ (connection_at slot ws ≡ Some k)
+is_own ws es slot k t = (λ at. t.owned k.id (association_of slot k) at, λ is. t.opened slot k is)
 
 -- ---- nobody, and one slot more
 

@@ -1,13 +1,13 @@
 //! The table.
 
-ghost use Rattle.std.specs.Prelude.{◌≡◌, ◌+◌, ◌<◌, ◌≤◌, ◌==◌, ◌++◌, ◌∷◌, ℕ, [], IfOk, None, OnOk, OnErr, Some, if◌then◌else◌, length, map, slice_set};
+ghost use Rattle.std.specs.Prelude.{◌≡◌, ◌+◌, ◌<◌, ◌≤◌, ◌==◌, ◌++◌, ◌∷◌, ◌↔◌, ℕ, [], IfOk, None, OnOk, OnErr, Some, true, if◌then◌else◌, length, map, slice_set};
 ghost use Rattle.identity_slots.specs.Ids.{slots};
 ghost use Rattle.mme_tables.specs.Whereabouts.{slots_where};
-ghost use Rattle.mme_tables.specs.Whereabouts.{nowhere, away_from, is_concerned, is_meant, is_meant_at, is_there, unless, waits_at, AreApart, IsFree, NoneConnected, NoneWaits};
+ghost use Rattle.mme_tables.specs.Whereabouts.{nowhere, away_from, connection_at, is_concerned, is_meant, is_meant_at, is_there, unless, waits_at, AreApart, IsFree, NoneConnected, NoneWaits};
 
 use crate::closing::disconnect_owners;
 use crate::items::listed_items;
-use crate::opening::{close_stranger, open_stranger, reopen};
+use crate::opening::{close_stranger, is_association_of, open_stranger, reopen};
 use crate::slots::{OrderedSlot, gather_owners, is_nobody, list_slot, slots_of};
 use crate::whereabouts::{Whereabouts, is_same};
 use association_table::Associations;
@@ -20,8 +20,9 @@ use std::marker::Model;
 
 /// Where each slot's phone is, and the map of all associations, the connections and the places of waiting strangers: no id stands
 /// twice (`are_apart`). `set` puts a phone on an id that nobody else has, `begin_wait` a stranger, and `end_wait` takes it away,
-/// without memory. `close_station` takes away all who are at a station, `close_listed` all whom a RESET means. `concerned` answers
-/// the slots whose phone is connected at a station or is paged, `listed` those whose connection a RESET means, by rising slot.
+/// without memory. `close_station` takes away all who are at a station, `close_listed` all whom a RESET means. `has` says whether a
+/// phone has a connection, `concerned` answers the slots whose phone is connected at a station or is paged, `listed` those whose
+/// connection a RESET means, by rising slot.
 ///
 /// Contracts see the phones by slot, all associations by id, and for how many changes there is room.
 #[derive(Drop)]
@@ -179,6 +180,16 @@ impl Connections {
         let closed = associations.close_listed(station.get(), items.as_slice())?;
         disconnect_owners(&mut self.by_slot, closed.as_slice());
         Ok(())
+    }
+
+    /// Whether the phone of a slot has that connection: its id is looked up among all associations. Takes no memory.
+    pub fn has(&self, slot: Slot, connection: &Connection) -> bool
+        ensures { (result ≡ true) ↔ (connection_at slot self.now.whereabouts ≡ Some connection.now) }
+    {
+        match self.associations.find(connection.id.get()) {
+            Some(association) => is_association_of(&association, slot, connection),
+            None => false,
+        }
     }
 
     /// The slots that the loss of a station concerns, by rising slot: those with a connection there, and those for which a

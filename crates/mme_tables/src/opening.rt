@@ -1,6 +1,6 @@
 //! The associations of slots and of strangers that wait: opened, closed and moved.
 
-ghost use Rattle.std.specs.Prelude.{◌≡◌, ◌+◌, ◌<◌, ◌≤◌, ℕ, Some, None};
+ghost use Rattle.std.specs.Prelude.{◌≡◌, ◌↔◌, ◌+◌, ◌<◌, ◌≤◌, ℕ, Some, None, true};
 ghost use Rattle.association_table.specs.Table.{found};
 ghost use Rattle.mme_tables.specs.Whereabouts.{association_of, stranger_association};
 ghost use Rattle.mme_tables.specs.KeptPlaces.{IsBegun, IsEnded, IsOpen, IsReopened, IsVacant};
@@ -19,6 +19,17 @@ fn association_of(slot: Slot, connection: &Connection) -> Association
         station: connection.station.get(),
         enb_ue_id: connection.enb_ue_id.get() as u32,
     }
+}
+
+/// Whether an association is a slot's, with that connection.
+pub(crate) fn is_association_of(
+    association: &Association,
+    slot: Slot,
+    connection: &Connection,
+) -> bool
+    ensures { (result ≡ true) ↔ (association.now ≡ association_of slot connection.now) }
+{
+    *association == association_of(slot, connection)
 }
 
 // A slot has an association, whose id has none. Takes no memory.

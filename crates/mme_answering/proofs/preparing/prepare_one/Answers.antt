@@ -1,9 +1,9 @@
-use Rattle.std.proofs.Common.{◌++◌, Some, arith, sym, ◌∙◌, ap}
+use Rattle.std.proofs.Common.{◌++◌, arith, sym, ◌∙◌, ap}
 use Rattle.std.proofs.lemmas.List.{append-nil}
 use Rattle.std.proofs.lemmas.Result.{err_from_is_err_and}
 use Rattle.mme_types.specs.Events.{item_of}
 use Rattle.mme_answering.specs.Settled.{with_solo}
-use Rattle.mme_answering.proofs.Calling.{call_past, call_still}
+use Rattle.mme_answering.proofs.Calling.{call_past}
 use Rattle.mme_answering.proofs.Sent.{sends_same}
 use Rattle.mme_answering.proofs.Stepping.{called_after, called_sends}
 use Rattle.mme_answering.proofs.preparing.prepare_one.Goals as goal
@@ -16,17 +16,6 @@ returns-then-place-len-clause-prepares c =
     record {
       sends = sym (ap (λ os. c.args.outs.now ++ os) past.1 ∙ append-nil c.args.outs.now);
       subscribers = sym past.0;
-      fits = tt;
-    }
-
-pub returns-then-is_still-clause-prepares : goal.returns-then-is_still-clause-prepares
-returns-then-is_still-clause-prepares c =
-    let ws = c.args.subscribers.now.subscribers in
-    let item = item_of c.args.event.now c.args.stations.now in
-    let stays = call_still c.args.slot item ws (c.is_still.ensures c.args.stations.now ∙ ap (λ b. Some b) c.if-is_still.true) in
-    record {
-      sends = sym (ap (λ os. c.args.outs.now ++ os) stays.1 ∙ append-nil c.args.outs.now);
-      subscribers = sym stays.0;
       fits = tt;
     }
 
