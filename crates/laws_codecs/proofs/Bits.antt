@@ -10,6 +10,7 @@ use Rattle.per_streams.specs.BitLaws.{bits-value, bits-zero, value-bits}
 use Rattle.per_streams.specs.Each.{times}
 use Rattle.per_streams.specs.Exact.{Exact, Nothing, exact_ok, exact_same}
 use Rattle.per_streams.specs.OctetLaws.{IsPad, exact_align}
+use Rattle.per_streams.specs.PartLaws.{short as take_cut}
 use Rattle.per_bits.specs.FormatLaws.{exact_closed}
 use Rattle.per_bits.specs.Reading.{closed_at}
 use Rattle.per_bits.specs.Spelling.{SpellsClosed}
@@ -17,7 +18,7 @@ use Rattle.laws_codecs.specs.Components.{any_bits, padding_bits, zero_bit, end_o
 use Rattle.laws_codecs.specs.PerFaults.{AlignedBits, Alone, EndComponents, IsZeroBit}
 use Rattle.laws_codecs.proofs.Outcomes.{good}
 use Rattle.laws_codecs.proofs.Telling.{Tells, tells_bind, tells_map}
-use Rattle.laws_codecs.proofs.Judging.{HasRoom, Judges, Verdict, judges_cut, judges_good, judges_one, judges_taken, left_at, take_cut, take_room, tells_alone, verdict_unless}
+use Rattle.laws_codecs.proofs.Judging.{HasRoom, Judges, Verdict, judges_cut, judges_good, judges_one, judges_taken, left_at, take_room, tells_alone, verdict_unless}
 
 -- ---- N bits
 

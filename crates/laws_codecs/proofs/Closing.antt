@@ -4,8 +4,8 @@ use Rattle.per_streams.specs.declared.fault.PerFault.{PerFault}
 use Rattle.per_streams.specs.declared.fault.PerFault.TheVariants.{Range}
 use Rattle.per_streams.specs.Bits.{Place, ◌>>=◌, bit_at, open_at}
 use Rattle.per_streams.specs.Each.{times}
-use Rattle.per_streams.specs.Exact.{Exact, IsBits}
-use Rattle.per_bits.specs.FormatLaws.{IsBit, exact_bit, exact_closed, exact_flags, exact_number, exact_string}
+use Rattle.per_streams.specs.Exact.{IsBits}
+use Rattle.per_bits.specs.FormatLaws.{IsBit, exact_bit, exact_flags, exact_small_number, exact_string}
 use Rattle.per_bits.specs.Formats.{left_of, right_of}
 use Rattle.per_bits.specs.Reading.{additions_at, closed_at, enumerated_at, extended_at, root_at, small_number_at}
 use Rattle.per_bits.specs.Spelling.{SpellsClosed, SpellsNumber, SpellsString, trues}
@@ -34,9 +34,6 @@ tells_closed fault P r h s =
 
 pub tells_small_number : (s : Place) → Tells (SmallNumber s) (small_number_at s)
 tells_small_number s = tells_closed Range (NumberComponents 0 63) (number_at 0 63) (tells_number 0 63) s
-
-pub exact_small_number : Exact (SpellsClosed (SpellsNumber 0 63)) small_number_at
-exact_small_number = exact_closed Range (SpellsNumber 0 63) (number_at 0 63) (exact_number 0 63)
 
 -- ---- names
 

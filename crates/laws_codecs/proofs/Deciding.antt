@@ -1,5 +1,5 @@
 -- Each component has a spelling at a place or one fault there.
-use Rattle.std.proofs.Common.{◌≡◌, ℕ, ◌+◌, ◌-◌, ◌*◌, ◌^◌, ◌<◌, ◌≤◌, Bool, true, false, eqb, List, [], ◌∷◌, length, take, drop, refl, sym, ap, ◌⊎◌, inl, inr, arith}
+use Rattle.std.proofs.Common.{◌≡◌, ℕ, ◌+◌, ◌-◌, ◌*◌, ◌^◌, ◌<◌, ◌≤◌, Bool, true, false, eqb, List, [], ◌∷◌, length, take, drop, refl, sym, ◌⊎◌, inl, inr, arith}
 use Rattle.std.proofs.lemmas.Bool.{cases_eq, cases_lt, eqb-true}
 use Rattle.std.proofs.lemmas.List.{length-take-le, take-append-drop}
 use Rattle.per_streams.specs.declared.fault.PerFault.{PerFault}
@@ -7,7 +7,7 @@ use Rattle.per_streams.specs.declared.fault.PerFault.TheVariants.{Truncated, Pad
 use Rattle.per_streams.specs.Bits.{Place, value}
 use Rattle.laws_codecs.specs.Components.{Component, any_bits, padding_bits, zero_bit, number_bits, number_octets, length_octet, second_length_octet, same_number, end_of_octets, component_width, fault_number, HasSpelling, IsBroken, IsFaultOf, SpellsComponent}
 use Rattle.laws_codecs.proofs.Bits.{not_zeros, zeros}
-use Rattle.laws_codecs.proofs.Judging.{HasRoom, broken, least}
+use Rattle.laws_codecs.proofs.Judging.{HasRoom, broken, least, same_number_of}
 use Rattle.laws_codecs.proofs.Unspelled.{wrong_unspelled}
 
 -- its bits, and what follows them, spell it; or one fault of what breaks it has the lowest number
@@ -17,22 +17,19 @@ Settled c bs following =
     ⊎ ((fault : PerFault) × IsBroken c bs following fault
     × ((other : PerFault) → IsBroken c bs following other → fault_number fault ≤ fault_number other))
 
-same_or_more : (x other : PerFault) → other ≡ x → fault_number x ≤ fault_number other
-same_or_more x other p = let n = ap fault_number p in omega (arith, n)
-
 padding_settled : (bs following : List Bool) → (b : Bool) → eqb (value bs) 0 ≡ b → Settled padding_bits bs following
 padding_settled bs following true e = inl (zeros bs (eqb-true (value bs) 0 e))
-padding_settled bs following false e = inr (Padding, (refl, not_zeros bs e), λ other b. same_or_more Padding other b.0)
+padding_settled bs following false e = inr (Padding, (refl, not_zeros bs e), λ other b. same_number_of Padding other b.0)
 
 bit_settled : (named : PerFault) (bs following : List Bool) → length bs ≡ 1 → Settled (zero_bit named) bs following
 bit_settled named [] following len = absurd (omega (arith, len))
-bit_settled named (true ∷ []) following len = inr (named, (refl, refl), λ other b. same_or_more named other b.0)
+bit_settled named (true ∷ []) following len = inr (named, (refl, refl), λ other b. same_number_of named other b.0)
 bit_settled named (false ∷ []) following len = inl refl
 bit_settled named (b ∷ (c ∷ bs)) following len = absurd (omega (arith, len))
 
 number_settled : (most n : ℕ) (bs following : List Bool) → (most < value bs) ⊎ (value bs ≤ most)
     → Settled (number_bits most n) bs following
-number_settled most n bs following (inl above) = inr (Range, (refl, above), λ other b. same_or_more Range other b.0)
+number_settled most n bs following (inl above) = inr (Range, (refl, above), λ other b. same_number_of Range other b.0)
 number_settled most n bs following (inr within) = inl within
 
 abbrev Octets : ℕ → ℕ → List Bool → PerFault → Type 0
@@ -40,13 +37,13 @@ Octets most n bs fault =
     ((fault ≡ Range) × (most < value bs)) ⊎ ((fault ≡ NotFewest) × (1 < n) × (value bs < 2 ^ (8 * (n - 1))))
 
 range_first : (most n : ℕ) (bs : List Bool) (other : PerFault) → Octets most n bs other → 3 ≤ fault_number other
-range_first most n bs other (inl b) = same_or_more Range other b.0
-range_first most n bs other (inr b) = let k = same_or_more NotFewest other b.0 in omega (arith, k)
+range_first most n bs other (inl b) = same_number_of Range other b.0
+range_first most n bs other (inr b) = let k = same_number_of NotFewest other b.0 in omega (arith, k)
 
 fewest_alone : (most n : ℕ) (bs : List Bool) (other : PerFault) → value bs ≤ most → Octets most n bs other
     → 4 ≤ fault_number other
 fewest_alone most n bs other within (inl b) = let lt = b.1 in absurd (omega (arith, lt, within))
-fewest_alone most n bs other within (inr b) = same_or_more NotFewest other b.0
+fewest_alone most n bs other within (inr b) = same_number_of NotFewest other b.0
 
 octets_settled : (most n : ℕ) (bs following : List Bool) → (most < value bs) ⊎ (value bs ≤ most) → (1 < n) ⊎ (n ≤ 1)
     → (value bs < 2 ^ (8 * (n - 1))) ⊎ (2 ^ (8 * (n - 1)) ≤ value bs)
@@ -60,21 +57,21 @@ octets_settled most n bs following (inr within) (inr one) fewer = inl (within, �
 
 length_settled : (bs following : List Bool) → (value bs < 192) ⊎ (192 ≤ value bs) → Settled length_octet bs following
 length_settled bs following (inl lt) = inl lt
-length_settled bs following (inr le) = inr (Fragmented, (refl, le), λ other b. same_or_more Fragmented other b.0)
+length_settled bs following (inr le) = inr (Fragmented, (refl, le), λ other b. same_number_of Fragmented other b.0)
 
 second_settled : (first : ℕ) (bs following : List Bool)
     → ((first - 128) * 256 + value bs < 128) ⊎ (128 ≤ (first - 128) * 256 + value bs)
     → Settled (second_length_octet first) bs following
-second_settled first bs following (inl lt) = inr (NotFewest, (refl, lt), λ other b. same_or_more NotFewest other b.0)
+second_settled first bs following (inl lt) = inr (NotFewest, (refl, lt), λ other b. same_number_of NotFewest other b.0)
 second_settled first bs following (inr le) = inl le
 
 same_settled : (m n : ℕ) (bs following : List Bool) → (m ≡ n) ⊎ (m ≡ n → ⊥) → Settled (same_number m n) bs following
 same_settled m n bs following (inl same) = inl same
-same_settled m n bs following (inr other) = inr (Range, (refl, other), λ fault b. same_or_more Range fault b.0)
+same_settled m n bs following (inr other) = inr (Range, (refl, other), λ fault b. same_number_of Range fault b.0)
 
 end_settled : (bs following : List Bool) → Settled end_of_octets bs following
 end_settled bs [] = inl refl
-end_settled bs (b ∷ following) = inr (Trailing, (refl, λ e. absurd (cc e)), λ other m. same_or_more Trailing other m.0)
+end_settled bs (b ∷ following) = inr (Trailing, (refl, λ e. absurd (cc e)), λ other m. same_number_of Trailing other m.0)
 
 settled : (c : Component) (at : ℕ) (bs following : List Bool) → length bs ≡ component_width c at → Settled c bs following
 settled (any_bits n) at bs following len = inl tt

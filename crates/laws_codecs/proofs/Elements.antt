@@ -16,7 +16,8 @@ use Rattle.s1ap_rows.specs.Rows.{Rows, Slots}
 use Rattle.s1ap_rows.specs.Spelling.{Raw, id_of, criticality_of, octets_of, may_skip}
 use Rattle.s1ap_rows.specs.Reading.{◌>>>◌, syntax_of, pass_at, fill_slot, put_at}
 use Rattle.laws_codecs.specs.S1apFaults.{has_element, held_by, IsRepeated, IsRefused, IsMisspelled, IsNoElement, ElementFault}
-use Rattle.laws_codecs.proofs.S1apOutcomes.{SyntaxOr, err_same, good, never_both, true_false, syntax_fails, reads}
+use Rattle.laws_codecs.proofs.Outcomes.{good, reads}
+use Rattle.laws_codecs.proofs.S1apOutcomes.{SyntaxOr, err_same, never_both, true_false, syntax_fails}
 use Rattle.laws_codecs.proofs.Looking.{Seen, row_at, no_row_at}
 
 -- ---- an element's parts

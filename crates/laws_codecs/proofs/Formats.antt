@@ -6,7 +6,7 @@ use Rattle.per_streams.specs.Bits.{Place, ◌>>=◌, bit_at}
 use Rattle.per_streams.specs.BitLaws.{ok_is}
 use Rattle.per_streams.specs.Each.{times}
 use Rattle.per_streams.specs.Exact.{IsBits, Takes}
-use Rattle.per_bits.specs.FormatLaws.{complete_again, complete_takes, exact, exact_closed, exact_fields, exact_flags, exact_number}
+use Rattle.per_bits.specs.FormatLaws.{complete_again, complete_takes, exact, exact_closed, exact_fields, exact_flags, exact_number, exact_optional, exact_skipped}
 use Rattle.per_bits.specs.Formats.{Format, Fields, Alternatives, Value, Values, Chosen, optionals, alternatives, flag_of, flags_after, left_of, right_of, number, octets, octets_between, octet_string, bit_string, bits_between, enumerated, closed, items, open_type, plain, sequence, choice, done, must, may, skip, fixed, marked, last, either}
 use Rattle.per_bits.specs.Reading.{additions_at, chosen_at, closed_at, complete_at, fields_at, optional_at, read_at, skipped_at}
 use Rattle.per_bits.specs.Spelling.{Spells, SpellsClosed, SpellsFields, SpellsNumber, SpellsOptional, SpellsWhole}
@@ -21,7 +21,7 @@ use Rattle.laws_codecs.proofs.Closing.{tells_additions, tells_closed, tells_name
 use Rattle.laws_codecs.proofs.Nexts.{tells_next}
 use Rattle.laws_codecs.proofs.Numbers.{tells_number}
 use Rattle.laws_codecs.proofs.Strings.{tells_bits_between, tells_fixed_bits, tells_fixed_octets, tells_octets_between, tells_string}
-use Rattle.laws_codecs.proofs.Wholes.{exact_optional, exact_skipped, tells_inside, tells_optional, tells_same_number, tells_skipped, tells_whole}
+use Rattle.laws_codecs.proofs.Wholes.{tells_inside, tells_optional, tells_same_number, tells_skipped, tells_whole}
 
 index_within : (n i at : ℕ) (bs : List Bool) → SpellsClosed (SpellsNumber 0 n) i at bs → i ≤ n
 index_within n i at bs m = let le = m.2.1 in omega (arith, le)

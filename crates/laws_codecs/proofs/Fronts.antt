@@ -17,7 +17,8 @@ use Rattle.s1ap_rows.specs.Spelling.{Raw, message}
 use Rattle.s1ap_rows.specs.Reading.{◌>>>◌, syntax_of, put_at, elements_at}
 use Rattle.s1ap_rows.specs.MessageLaws.{bind_some, syntax_some, elements_to}
 use Rattle.laws_codecs.specs.S1apFaults.{UpTo}
-use Rattle.laws_codecs.proofs.S1apOutcomes.{FailsOr, SyntaxOr, failed, ok_same, err_same, good, syntax_fails, bind_fails}
+use Rattle.laws_codecs.proofs.Outcomes.{good}
+use Rattle.laws_codecs.proofs.S1apOutcomes.{FailsOr, SyntaxOr, failed, ok_same, err_same, syntax_fails, bind_fails}
 use Rattle.laws_codecs.proofs.Elements.{step_at}
 
 -- ---- what stands before a place

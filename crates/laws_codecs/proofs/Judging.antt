@@ -1,9 +1,10 @@
 -- A component alone: a result is a fault exactly where it is that of the component.
 use Rattle.std.proofs.Common.{◌≡◌, ℕ, ◌+◌, ◌<◌, ◌≤◌, Bool, true, false, cond, List, length, take, drop, Result, Ok, Err, refl, sym, ap, subst, ◌∙◌, ◌⊎◌, inl, inr, arith}
-use Rattle.std.proofs.lemmas.Bool.{cases_lt, lt-ltb, le-ltb}
+use Rattle.std.proofs.lemmas.Bool.{cases_lt, le-ltb}
 use Rattle.per_streams.specs.declared.fault.PerFault.{PerFault}
 use Rattle.per_streams.specs.declared.fault.PerFault.TheVariants.{Truncated, Padding, Range, NotFewest, Fragmented, Trailing, Alternative}
 use Rattle.per_streams.specs.Bits.{Place, ◌>>=◌, take_at}
+use Rattle.per_streams.specs.PartLaws.{short as take_cut}
 use Rattle.laws_codecs.specs.Components.{Component, component_width, fault_number, IsBroken, IsFaultOf, IsWrong}
 use Rattle.laws_codecs.specs.PerFaults.{Alone}
 use Rattle.laws_codecs.proofs.Outcomes.{bad, bad_same, fails_first, goes_on, good, never_both}
@@ -84,7 +85,7 @@ judges_lowest {A} k s r x room b low only e = record {
       e ∙ ap (λ (f : PerFault). bad {A = A} f) (sym (only fault (broken k s fault room w.0) (w.1 x (inr b))));
 }
 
-same_number_of : (x other : PerFault) → other ≡ x → fault_number x ≤ fault_number other
+pub same_number_of : (x other : PerFault) → other ≡ x → fault_number x ≤ fault_number other
 same_number_of x other p = let n = ap fault_number p in omega (arith, n)
 
 pub judges_bad : {A : Type 0} (k : Component) (s : Place) (r : Result A PerFault) (x : PerFault) → HasRoom k s
@@ -112,10 +113,6 @@ judges_one k s r x C room to from (inl m) = judges_bad k s r x room (λ fault b.
 judges_one k s r x C room to from (inr m) = judges_good k s r m.1.0 room (λ fault b. m.0 (to fault b).1) m.1.1
 
 -- ---- bits that were taken
-
-pub take_cut : (n : ℕ) (s : Place) → length s.rest < n → take_at n s ≡ Err Truncated
-unfolding take_at
-take_cut n s cut = rw (lt-ltb (length s.rest) n cut) refl
 
 abbrev pub left_at : ℕ → Place → Place
 left_at n s = record { at = s.at + n; rest = drop n s.rest }

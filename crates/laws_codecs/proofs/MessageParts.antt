@@ -1,14 +1,13 @@
 -- Reading tells the components of a message beside its elements.
-use Rattle.std.proofs.Common.{◌≡◌, ℕ, ◌+◌, Bool, List, ◌++◌, length, Err, refl, ap, subst, ◌∙◌, ◌↔◌}
+use Rattle.std.proofs.Common.{◌≡◌, ℕ, Bool, List, Err, ◌↔◌}
 use Rattle.per_streams.specs.declared.fault.PerFault.{PerFault}
 use Rattle.per_streams.specs.declared.fault.PerFault.TheVariants.{Alternative}
-use Rattle.per_streams.specs.Bits.{Place, ◌>>=◌, start, bit_at, end_at, open_at}
-use Rattle.per_streams.specs.Each.{SpellsEach, times}
-use Rattle.per_streams.specs.Exact.{Bind, Each, Exact, IsBits, exact_bind, exact_same, exact_times}
-use Rattle.per_bits.specs.FormatLaws.{IsBit, exact, exact_bit, exact_closed, exact_flags, exact_number, exact_pair, exact_string}
-use Rattle.per_bits.specs.Reading.{additions_at, closed_at, read_at, skipped_at, small_number_at, whole_at}
-use Rattle.per_bits.specs.Spelling.{Spells, SpellsAdditions, SpellsClosed, SpellsNumber, SpellsString, trues}
+use Rattle.per_streams.specs.Bits.{Place, ◌>>=◌, start, bit_at, end_at}
+use Rattle.per_bits.specs.FormatLaws.{IsBit, exact_additions, exact_bit, exact_closed, exact_number, exact_skipped}
+use Rattle.per_bits.specs.Reading.{additions_at, closed_at, read_at, skipped_at, whole_at}
+use Rattle.per_bits.specs.Spelling.{SpellsAdditions, SpellsClosed, SpellsNumber}
 use Rattle.per_streams.specs.Reading.{number_at}
+use Rattle.s1ap_rows.specs.FrameLaws.{exact_frame}
 use Rattle.s1ap_rows.specs.Reading.{frame_at}
 use Rattle.s1ap_rows.specs.Spelling.{Frame, SpellsFrame, body}
 use Rattle.laws_codecs.specs.S1apFaults.{head_at, tail_at}
@@ -18,18 +17,12 @@ use Rattle.laws_codecs.specs.PerFaults.{AdditionComponents, Alone, ClosedCompone
 use Rattle.laws_codecs.proofs.Outcomes.{good}
 use Rattle.laws_codecs.proofs.Telling.{Tells, tells_bind, tells_map}
 use Rattle.laws_codecs.proofs.Bits.{tells_bit, tells_end}
-use Rattle.laws_codecs.proofs.Closing.{exact_small_number, tells_additions, tells_closed}
+use Rattle.laws_codecs.proofs.Closing.{tells_additions, tells_closed}
 use Rattle.laws_codecs.proofs.Numbers.{tells_number}
-use Rattle.laws_codecs.proofs.Wholes.{exact_skipped, tells_skipped, tells_whole}
+use Rattle.laws_codecs.proofs.Wholes.{tells_skipped, tells_whole}
 use Rattle.laws_codecs.proofs.Formats.{tells}
 
 -- ---- the frame
-
-exact_frame : Exact SpellsFrame frame_at
-unfolding frame_at
-exact_frame =
-    exact_pair (SpellsClosed (SpellsNumber 0 2)) (Spells body) (closed_at Alternative (number_at 0 2)) (read_at body)
-    (exact_closed Alternative (SpellsNumber 0 2) (number_at 0 2) (exact_number 0 2)) (exact body)
 
 tells_frame : (s : Place)
     → Tells
@@ -55,41 +48,6 @@ tells_head s =
     (tells_number 0 65535 t))
 
 -- ---- after them
-
-abbrev Additions : List (List ℕ) → ℕ → List Bool → Type 0
-Additions = Bind (SpellsClosed (SpellsNumber 0 63)) (λ more. Bind (IsBits (more + 1)) (λ flags. Each SpellsString (trues flags)))
-
-additions_to : (oss : List (List ℕ)) (at : ℕ) (bs : List Bool) → Additions oss at bs → SpellsAdditions oss at bs
-additions_to oss at bs m =
-    let j = m.5 in
-    let rest : m.2 ≡ j.0 ++ j.2 = j.3 ∙ ap (λ (l : List Bool). l ++ j.2) j.4.0 in (
-      m.0,
-      m.1,
-      j.0,
-      j.2,
-      m.3 ∙ ap (λ (l : List Bool). m.1 ++ l) rest,
-      m.4,
-      j.4.1,
-      j.5.0,
-      subst (λ (l : List Bool). SpellsEach SpellsString oss (at + length m.1 + length l) j.2) j.4.0 j.5.1,
-    )
-
-additions_from : (oss : List (List ℕ)) (at : ℕ) (bs : List Bool) → SpellsAdditions oss at bs → Additions oss at bs
-additions_from oss at bs m = (m.0, m.1, m.2 ++ m.3, m.4, m.5, (m.2, m.2, m.3, refl, (refl, m.6), (m.7, m.8)))
-
-exact_additions : Exact SpellsAdditions additions_at
-unfolding additions_at
-exact_additions =
-    exact_same Additions SpellsAdditions
-    (λ s. small_number_at s >>= λ more. times bit_at (more.0 + 1) more.1
-    >>= λ flags. times open_at (trues flags.0) flags.1) additions_at additions_to additions_from
-    (λ s. refl)
-    (exact_bind (SpellsClosed (SpellsNumber 0 63))
-    (λ more. Bind (IsBits (more + 1)) (λ flags. Each SpellsString (trues flags))) small_number_at
-    (λ more s. times bit_at (more + 1) s >>= λ flags. times open_at (trues flags.0) flags.1) exact_small_number
-    (λ more. exact_bind (IsBits (more + 1)) (λ flags. Each SpellsString (trues flags)) (times bit_at (more + 1))
-    (λ flags s. times open_at (trues flags) s) (exact_flags (more + 1))
-    (λ flags. exact_times SpellsString open_at exact_string (trues flags))))
 
 tells_tail : (extended : Bool) (s : Place) → Tells (TailComponents extended s) (tail_at extended s)
 tells_tail extended s =

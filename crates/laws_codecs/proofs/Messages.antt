@@ -12,7 +12,8 @@ use Rattle.s1ap_rows.specs.Spelling.{Raw, AreElements, message}
 use Rattle.s1ap_rows.specs.Reading.{◌>>>◌, syntax_of, elements_at, fill_at, kept_of, message_at}
 use Rattle.s1ap_rows.specs.MessageLaws.{bind_some, syntax_some, elements_to, elements_from}
 use Rattle.laws_codecs.specs.S1apFaults.{head_at, tail_at, Reached, FailsAtElement, FailsAfterElements, LacksElement, HasMessageFault}
-use Rattle.laws_codecs.proofs.S1apOutcomes.{FailsOr, SyntaxOr, okay, bad, ok_same, never_both, bind_fails, syntax_fails}
+use Rattle.laws_codecs.proofs.Outcomes.{bad}
+use Rattle.laws_codecs.proofs.S1apOutcomes.{FailsOr, SyntaxOr, okay, ok_same, never_both, bind_fails, syntax_fails}
 use Rattle.laws_codecs.proofs.Taken.{taken_of, put_of}
 use Rattle.laws_codecs.proofs.Looking.{seen, missing_to, missing_from}
 use Rattle.laws_codecs.proofs.Elements.{step_fails, fault_fails}

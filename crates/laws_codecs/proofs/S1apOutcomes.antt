@@ -1,8 +1,6 @@
--- Steps that failed, and what was read.
-use Rattle.std.proofs.Common.{◌≡◌, ℕ, ◌+◌, Bool, true, false, List, ◌++◌, length, Result, Ok, Err, refl, sym, ap, ◌∙◌, ◌⊎◌, inl, inr}
+-- Steps that failed.
+use Rattle.std.proofs.Common.{◌≡◌, Bool, true, false, Result, Ok, Err, refl, ap, ◌⊎◌, inl, inr}
 use Rattle.per_streams.specs.declared.fault.PerFault.{PerFault}
-use Rattle.per_streams.specs.Bits.{Place}
-use Rattle.per_streams.specs.Exact.{Exact, Takes}
 use Rattle.s1ap_rows.specs.declared.fault.S1apFault.{S1apFault}
 use Rattle.s1ap_rows.specs.declared.fault.S1apFault.TheVariants.{Syntax}
 use Rattle.s1ap_rows.specs.Reading.{◌>>>◌, syntax_of}
@@ -51,19 +49,3 @@ mapped_fails {A} {B} (Err e) g x h = ap (λ (y : S1apFault). failed {A = A} y) (
 pub fails_first : {A B : Type 0} (r : Result A S1apFault) (g : A → Result B S1apFault) (x : S1apFault) → r ≡ Err x
     → (r >>> g) ≡ Err x
 fails_first r g x h = rw h refl
-
-abbrev pub bad : {A : Type 0} → PerFault → Result A PerFault
-bad d = Err d
-
-abbrev pub good : {A : Type 0} → A → Result A PerFault
-good x = Ok x
-
--- what bits spell is read, whatever follows
-pub reads : {A : Type 0} (S : A → ℕ → List Bool → Type 0) (r : Place → Result (A × Place) PerFault) → Exact S r
-    → (s t : Place) (a : A) → Takes S s a t → r s ≡ Ok (a, t)
-reads {A} S r h s t a k =
-    let from : r s ≡ r (record { at = s.at; rest = k.taken ++ t.rest }) =
-    ap (λ (l : List Bool). r (record { at = s.at; rest = l })) k.parts in
-    let to : good {A = A × Place} (a, record { at = s.at + length k.taken; rest = t.rest }) ≡ good (a, t) =
-    ap (λ (n : ℕ). good {A = A × Place} (a, record { at = n; rest = t.rest })) (sym k.at) in
-    from ∙ h.again a s.at k.taken t.rest k.spelled ∙ to

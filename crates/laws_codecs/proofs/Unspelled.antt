@@ -1,24 +1,20 @@
 -- A component with which something is wrong has no spelling there.
 use Rattle.std.proofs.Common.{◌≡◌, ℕ, ◌-◌, ◌*◌, ◌^◌, ◌<◌, ◌≤◌, Bool, true, false, List, [], ◌∷◌, length, take, drop, ap, subst, ◌∙◌, ◌⊎◌, inl, inr, arith}
 use Rattle.std.proofs.lemmas.Bool.{cases_lt}
-use Rattle.std.proofs.lemmas.Grind.{common_steps}
 use Rattle.std.proofs.lemmas.List.{length-append}
 use Rattle.std.proofs.lemmas.List.{take_at as take_front, drop_at as drop_front}
 use Rattle.std.proofs.Math.Pow.{pow_mono}
 use Rattle.per_streams.specs.declared.fault.PerFault.{PerFault}
 use Rattle.per_streams.specs.Bits.{Place, value}
 use Rattle.per_streams.specs.Numbers.{octets_for}
+use Rattle.per_streams.specs.NumberLaws.{octets-least}
 use Rattle.laws_codecs.specs.Components.{Component, any_bits, padding_bits, zero_bit, number_bits, number_octets, length_octet, second_length_octet, same_number, end_of_octets, component_width, HasSpelling, IsBroken, IsWrong, SpellsComponent}
 
 -- ---- numbers in more octets than hold them
 
-octets_floor : (n : ℕ) → 2 ≤ octets_for n → 2 ^ (8 * (octets_for n - 1)) ≤ n
-unfolding octets_for
-octets_floor n more = grind (arith, common_steps, more)
-
 pub no_more : (v n : ℕ) → 1 ≤ n → (n < octets_for v) ⊎ (octets_for v ≤ n) → v < 2 ^ (8 * n) → octets_for v ≤ n
 no_more v n some (inl fewer) holds =
-    let floor = octets_floor v (omega (arith, fewer, some)) in
+    let floor = octets-least v (omega (arith, fewer, some)) in
     let under = pow_mono {i = 8 * n} {j = 8 * (octets_for v - 1)} (omega (arith, fewer)) in
     absurd (omega (arith, floor, under, holds))
 no_more v n some (inr enough) holds = enough

@@ -1,15 +1,15 @@
 -- Complete encodings, fields that may stand, and numbers that must.
-use Rattle.std.proofs.Common.{◌≡◌, ℕ, Bool, true, false, cond, eqb, List, Option, Some, None, Result, Ok, Err, refl, subst, arith}
+use Rattle.std.proofs.Common.{◌≡◌, ℕ, Bool, true, false, cond, eqb, List, Some, None, Result, Err, refl, arith}
 use Rattle.std.proofs.lemmas.Bool.{eq-eqb, eqb-true}
 use Rattle.per_streams.specs.declared.fault.PerFault.{PerFault}
 use Rattle.per_streams.specs.declared.fault.PerFault.TheVariants.{Range}
 use Rattle.per_streams.specs.Bits.{Place, ◌>>=◌, start, end_at, open_at}
-use Rattle.per_streams.specs.Exact.{As, Cond, Exact, Never, Nothing, exact_as, exact_cond, exact_err, exact_ok, exact_same}
+use Rattle.per_streams.specs.Exact.{Cond, Exact, Never, Nothing, exact_cond, exact_err, exact_ok, exact_same}
 use Rattle.per_bits.specs.FormatLaws.{exact_string}
 use Rattle.per_bits.specs.Reading.{inside_at, optional_at, skipped_at, whole_at}
-use Rattle.per_bits.specs.Spelling.{SpellsOptional, SpellsString}
+use Rattle.per_bits.specs.Spelling.{SpellsString}
 use Rattle.laws_codecs.specs.Components.{Component, same_number}
-use Rattle.laws_codecs.specs.PerFaults.{Alone, EndComponents, InOrder, IsSame, IsSkipped, Nowhere, StringComponents, Whether, WholeComponents}
+use Rattle.laws_codecs.specs.PerFaults.{Alone, EndComponents, InOrder, IsSame, Nowhere, StringComponents, Whether, WholeComponents}
 use Rattle.laws_codecs.proofs.Outcomes.{good}
 use Rattle.laws_codecs.proofs.Telling.{Tells, tells_bind, tells_map, tells_never, tells_same}
 use Rattle.laws_codecs.proofs.Judging.{HasRoom, judges_one, tells_alone, verdict_unless}
@@ -37,22 +37,6 @@ tells_inside {A} S P r exact h s =
 
 -- ---- fields that may be absent
 
-some_to : {A : Type 0} (S : A → ℕ → List Bool → Type 0) (o : Option A) (at : ℕ) (bs : List Bool) → As (λ a. Some a) S o at bs
-    → SpellsOptional true S o at bs
-some_to {A} S o at bs m = subst (λ (x : Option A). SpellsOptional true S x at bs) m.1 m.2
-
-some_from : {A : Type 0} (S : A → ℕ → List Bool → Type 0) (o : Option A) (at : ℕ) (bs : List Bool)
-    → SpellsOptional true S o at bs → As (λ a. Some a) S o at bs
-some_from S None at bs m = absurd m
-some_from S (Some a) at bs m = (a, refl, m)
-
-pub exact_optional : {A : Type 0} (b : Bool) (S : A → ℕ → List Bool → Type 0) (r : Place → Result (A × Place) PerFault) → Exact S r
-    → Exact (SpellsOptional b S) (optional_at b r)
-exact_optional false S r h = exact_ok None
-exact_optional true S r h =
-    exact_same (As (λ a. Some a) S) (SpellsOptional true S) (λ s. r s >>= λ x. Ok (Some x.0, x.1)) (optional_at true r)
-    (some_to S) (some_from S) (λ s. refl) (exact_as (λ a. Some a) S r h)
-
 pub tells_optional : {A : Type 0} (b : Bool) (P : Place → Component → Place → Type 0) (r : Place → Result (A × Place) PerFault)
     → ((t : Place) → Tells (P t) (r t)) → (s : Place) → Tells (Whether b P Nowhere s) (optional_at b r s)
 tells_optional {A} false P r h s =
@@ -60,16 +44,6 @@ tells_optional {A} false P r h s =
 tells_optional true P r h s = tells_map (P s) (r s) (λ x. (Some x.0, x.1)) (h s)
 
 -- ---- what is not kept
-
-pub exact_skipped : {A : Type 0} (b : Bool) (S : A → ℕ → List Bool → Type 0) (r : Place → Result (A × Place) PerFault) → Exact S r
-    → Exact (IsSkipped b S) (skipped_at b r)
-exact_skipped false S r h =
-    exact_same (Nothing tt) (IsSkipped false S) (λ s. Ok (tt, s)) (skipped_at false r) (λ u at bs m. m.1) (λ u at bs m. (refl, m))
-    (λ s. refl) (exact_ok tt)
-exact_skipped {A} true S r h =
-    let none : A → Unit {0} = λ a. tt in
-    exact_same (As none S) (IsSkipped true S) (λ s. r s >>= λ x. Ok (tt, x.1)) (skipped_at true r)
-    (λ u at bs m. (m.0, m.2)) (λ u at bs m. (m.0, refl, m.1)) (λ s. refl) (exact_as none S r h)
 
 pub tells_skipped : {A : Type 0} (b : Bool) (P : Place → Component → Place → Type 0) (r : Place → Result (A × Place) PerFault)
     → ((t : Place) → Tells (P t) (r t)) → (s : Place) → Tells (Whether b P Nowhere s) (skipped_at b r s)

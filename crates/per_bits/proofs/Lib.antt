@@ -4,3 +4,5 @@ pub mod PlaceLaws
 pub mod Placed
 pub mod OpenLaws
 pub mod FieldLaws
+pub mod Heads
+pub mod Marked

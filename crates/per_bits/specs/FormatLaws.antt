@@ -128,7 +128,7 @@ optional_from : {A : Type 0} (S : A → ℕ → List Bool → Type 0) (o : Optio
 optional_from S None at bs m = absurd m
 optional_from S (Some a) at bs m = to_mapped S (λ a. Some a) a at bs m
 
-exact_optional : {A : Type 0} (b : Bool) (S : A → ℕ → List Bool → Type 0) (r : Place → Result (A × Place) PerFault) → Exact S r
+pub exact_optional : {A : Type 0} (b : Bool) (S : A → ℕ → List Bool → Type 0) (r : Place → Result (A × Place) PerFault) → Exact S r
     → Exact (SpellsOptional b S) (optional_at b r)
 exact_optional false S r h = exact_ok None
 exact_optional true S r h =
@@ -138,7 +138,7 @@ exact_optional true S r h =
 abbrev Unkept : {A : Type 0} (b : Bool) (S : A → ℕ → List Bool → Type 0) → Unit {0} → ℕ → List Bool → Type 0
 Unkept b S u at bs = SpellsSkipped b S at bs
 
-exact_skipped : {A : Type 0} (b : Bool) (S : A → ℕ → List Bool → Type 0) (r : Place → Result (A × Place) PerFault) → Exact S r
+pub exact_skipped : {A : Type 0} (b : Bool) (S : A → ℕ → List Bool → Type 0) (r : Place → Result (A × Place) PerFault) → Exact S r
     → Exact (Unkept b S) (skipped_at b r)
 exact_skipped false S r h =
     exact_same (Nothing tt) (Unkept false S) (λ s. Ok (tt, s)) (skipped_at false r) (λ u at bs m. m.1) (λ u at bs m. (refl, m))
@@ -255,7 +255,7 @@ exact_closed {A = A} fault S r h =
     (exact_bind IsBit (λ b. Cond b Never S) bit_at (λ b s. cond b (Err fault) (r s)) exact_bit
     (λ b. exact_cond b Never S (λ s. Err fault) r (λ e. exact_err fault) (λ e. h)))
 
-exact_small_number : Exact (SpellsClosed (SpellsNumber 0 63)) small_number_at
+pub exact_small_number : Exact (SpellsClosed (SpellsNumber 0 63)) small_number_at
 exact_small_number = exact_closed Range (SpellsNumber 0 63) (number_at 0 63) (exact_number 0 63)
 
 abbrev IsExtended : ℕ ⊎ ℕ → ℕ → List Bool → Type 0
@@ -542,7 +542,7 @@ additions_to oss at bs m =
 additions_from : (oss : List (List ℕ)) (at : ℕ) (bs : List Bool) → SpellsAdditions oss at bs → Additions oss at bs
 additions_from oss at bs m = (m.0, m.1, m.2 ++ m.3, m.4, m.5, (m.2, m.2, m.3, refl, (refl, m.6), (m.7, m.8)))
 
-exact_additions : Exact SpellsAdditions additions_at
+pub exact_additions : Exact SpellsAdditions additions_at
 unfolding additions_at
 exact_additions =
     exact_same Additions SpellsAdditions

@@ -9,6 +9,7 @@ pub mod Sequences
 pub mod BaseLaws
 pub mod LargeLaws
 pub mod FormatLaws
+pub mod HeadLaws
 pub mod WritingLaws
 -- whole numbers, for those who stand on the formats
 pub use Rattle.per_streams.specs.Numbers

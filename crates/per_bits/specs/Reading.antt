@@ -70,6 +70,12 @@ additions_at s = do
   flags ← times bit_at (more.0 + 1) more.1
   times open_at (trues flags.0) flags.1
 
+-- the octets of an element's value, after its id: its criticality stands before them, and is not compared
+abbrev pub marked_at : Place → Result (List ℕ × Place) PerFault
+marked_at s = do
+  criticality ← number_at 0 2 s
+  open_at criticality.1
+
 -- a complete encoding
 unfoldable pub whole_at : {A : Type 0} → (Place → Result (A × Place) PerFault) → List ℕ → Result A PerFault
 whole_at r os = do

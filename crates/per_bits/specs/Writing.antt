@@ -120,6 +120,13 @@ abbrev mutual
   write_chosen (either f alts) (inl v) out = write_at f v out
   write_chosen (either f alts) (inr v) out = write_chosen alts v out
 
+-- an element as it stands in a message: id, criticality, and its value as an open type
+abbrev pub write_element : ℕ → ℕ → (f : Format) → Value f → List Bool → Result (List Bool) PerFault
+write_element id criticality f v out = do
+  a ← write_number 0 65535 id out
+  b ← write_number 0 2 criticality a
+  write_at (open_type f) v b
+
 -- the one spelling of a value as a whole octet string, or Range where it has none
 abbrev pub complete_write : (f : Format) → Value f → Result (List ℕ) PerFault
 complete_write f v = write_whole (write_at f) v

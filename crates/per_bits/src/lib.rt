@@ -12,6 +12,7 @@ mod laws;
 mod name;
 mod octets;
 mod open;
+mod protocol_ie;
 mod sequence;
 mod skips;
 mod strings;
@@ -34,10 +35,11 @@ pub use open::{
 pub use per_streams::{
     BitReader, BitWriter, PerError, PerFault, Whole, offset_of, put_number, put_root,
 };
+pub use protocol_ie::{LAST_CRITICALITY, put_element, take_id, take_marked};
 pub use sequence::{
     put_flags, put_three_flags, read_pair, read_three, read_two, skip_later, take_flags,
     take_three_flags,
 };
-pub use skips::{GREATEST_ID, LAST_CRITICALITY, skip_additions, skip_extensions};
+pub use skips::{skip_additions, skip_extensions};
 pub use strings::{OctetString, SizedString, put_aligned, put_open};
 pub use wrapped::{Closed, put_optional, read_optional};

@@ -10,13 +10,8 @@ ghost use Rattle.per_bits.specs.Formats.{extensions, raw};
 ghost use Rattle.per_bits.specs.Spelling.{trues};
 
 use crate::open::{take_open, take_small_number};
+use crate::protocol_ie::{take_id, take_marked};
 use per_streams::{BitReader, PerFault, offset_of};
-
-/// The greatest id of an element (TS 36.413 clause 9.3.7).
-pub const GREATEST_ID: u64 = 65535;
-
-/// The greatest number of a criticality (TS 36.413 clause 9.3.7).
-pub const LAST_CRITICALITY: u64 = 2;
 
 // The most iE-Extensions of a SEQUENCE (TS 36.413 clause 9.3.7).
 const MOST_EXTENSIONS: u64 = 65535;
@@ -95,12 +90,11 @@ fn pass_raw(count: u64, reader: &mut BitReader) -> Result<(), PerFault>
     Ok(())
 }
 
-#[tactic(auto, unfolding(per_streams::specs::Reading::number_at, per_streams::specs::Each::times))]
+#[tactic(auto, unfolding(per_streams::specs::Each::times))]
 fn pass_one(reader: &mut BitReader) -> Result<(), PerFault>
     ensures { Answers (λ _. tt) result reader.new (skipped_at true (read_at raw) reader.old) }
 {
-    offset_of(GREATEST_ID, reader)?;
-    offset_of(LAST_CRITICALITY, reader)?;
-    take_open(reader)?;
+    take_id(reader)?;
+    take_marked(reader)?;
     Ok(())
 }

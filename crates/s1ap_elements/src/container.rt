@@ -3,15 +3,14 @@
 ghost use Rattle.std.specs.Prelude.{◌≡◌};
 ghost use Rattle.per_streams.specs.Bits.{Gives};
 ghost use Rattle.per_streams.specs.Each.{times};
-ghost use Rattle.per_streams.specs.Reading.{number_at};
 ghost use Rattle.per_streams.specs.Writing.{Wrote};
 ghost use Rattle.per_bits.specs.Reading.{read_at};
 ghost use Rattle.per_bits.specs.Writing.{write_at};
 ghost use Rattle.s1ap_elements.specs.Formats.{item};
 
 use per_bits::{
-    BitReader, BitWriter, Element, GREATEST_ID, LAST_CRITICALITY, PerError, PerFault, offset_of,
-    put_number, read_open, write_open,
+    BitReader, BitWriter, Element, PerError, PerFault, put_element, read_complete, take_id,
+    take_marked,
 };
 use std::alloc::Global;
 
@@ -34,20 +33,18 @@ impl<'a, T: Element<'a>, const ID: u16, const CRITICALITY: u8> Element<'a>
 
     ghost view = { λ c. (T.view c.value, tt) };
 
-    #[tactic(auto, unfolding(per_streams::specs::Reading::number_at, per_streams::specs::Each::times))]
+    #[tactic(auto, unfolding(per_streams::specs::Each::times))]
     fn read(alloc: Global, reader: &mut BitReader<'a>) -> Result<Self, PerError> {
-        let id = offset_of(GREATEST_ID, reader)?;
-        if id != ID as u64 {
+        let id = take_id(reader)?;
+        if id != ID {
             return Err(PerError::Fault(PerFault::Range));
         }
-        offset_of(LAST_CRITICALITY, reader)?;
-        let value = read_open::<T>(alloc, reader)?;
+        let octets = take_marked(reader)?;
+        let value = read_complete::<T>(alloc, octets)?;
         Ok(Listed { value })
     }
 
     fn write(&self, alloc: Global, writer: &mut BitWriter) -> Result<(), PerError> {
-        put_number(0, GREATEST_ID, ID as u64, writer)?;
-        put_number(0, LAST_CRITICALITY, CRITICALITY as u64, writer)?;
-        write_open::<T>(alloc, &self.value, writer)
+        put_element::<T>(alloc, ID, CRITICALITY, &self.value, writer)
     }
 }

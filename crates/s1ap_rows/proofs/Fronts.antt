@@ -1,6 +1,6 @@
 -- What stands before the elements of a message, as seven octets.
 use Rattle.std.proofs.Common.{◌≡◌, ℕ, ◌+◌, ◌-◌, ◌*◌, ◌/◌, ◌%◌, ◌^◌, ◌<◌, ◌≤◌, Bool, false, List, [], ◌∷◌, ◌++◌, length, replicate, None, Some, Ok, Err, refl, sym, ap, ◌∙◌, append_assoc, arith}
-use Rattle.std.proofs.lemmas.Bool.{le-leb, lt-leb, lt-ltb}
+use Rattle.std.proofs.lemmas.Bool.{le-leb, lt-ltb}
 use Rattle.std.proofs.lemmas.List.{append-nil, length-append}
 use Rattle.per_streams.specs.declared.fault.PerFault.TheVariants.{Range}
 use Rattle.per_streams.specs.Bits.{bits, octet_bits, pad, padding}
@@ -8,9 +8,9 @@ use Rattle.per_streams.specs.BitLaws.{bits-zero, length-bits}
 use Rattle.per_streams.specs.PartLaws.{bits-join}
 use Rattle.per_streams.specs.Numbers.{offset_bits}
 use Rattle.per_streams.specs.Writing.{write_number}
+use Rattle.per_bits.specs.HeadLaws.{criticality_refused, criticality_written, id_written, mark_octet, two_octets}
 use Rattle.s1ap_rows.specs.Rows.{Rows, ie, end, needed, optional, unkept, Kept, row_count}
 use Rattle.s1ap_rows.specs.Writing.{count_of, write_front, write_head}
-use Rattle.s1ap_rows.proofs.Heads.{criticality_written, id_written, mark_octet, two_octets}
 
 -- there are no more elements than rows
 pub count_within : (rs : Rows) (v : Kept rs) (n : ℕ) → count_of rs v n ≤ n + row_count rs
@@ -32,10 +32,6 @@ code_written code out small =
       same,
     ) refl
 
-kind_refused : (kind : ℕ) (out : List Bool) → 2 < kind → write_number 0 2 kind out ≡ Err Range
-unfolding write_number
-kind_refused kind out many = rw (le-leb 0 kind (omega (arith)), lt-leb kind 2 many) refl
-
 -- kind, code and criticality
 abbrev pub head_of : ℕ → ℕ → ℕ → List Bool
 head_of kind code c =
@@ -50,7 +46,7 @@ head_written kind code c known small few =
     ) refl
 
 pub head_refused : (kind code c : ℕ) → 2 < kind → write_head kind code c [] ≡ Err Range
-head_refused kind code c many = rw (kind_refused kind (false ∷ []) many) refl
+head_refused kind code c many = rw (criticality_refused kind (false ∷ []) many) refl
 
 -- the kind after the bit for an extension, and the bits up to the next octet
 kind_octet : (kind : ℕ) → kind ≤ 2 → bits 8 (kind * 32) ≡ (false ∷ bits 2 kind) ++ replicate 5 false

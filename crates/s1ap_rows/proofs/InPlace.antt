@@ -9,15 +9,14 @@ use Rattle.per_streams.specs.declared.fault.PerError.TheVariants as errors
 use Rattle.per_streams.specs.Bits.{◌>>=◌, Fails, bits, pad, padded}
 use Rattle.per_streams.specs.BitLaws.{length-bits}
 use Rattle.per_bits.specs.Formats.{Format, Value, number, open_type}
-use Rattle.per_bits.specs.Writing.{count_after, write_at, write_string, write_whole}
+use Rattle.per_bits.specs.Writing.{count_after, write_at, write_element, write_string, write_whole}
 use Rattle.per_streams.specs.Writing.{write_number}
 use Rattle.per_bits.proofs.OpenLaws.{StandsAfter, open_fails, open_room, open_written}
 use Rattle.per_bits.proofs.Placed.{Placed, placed_at, placed_nothing, placed_then, placed_after}
 use Rattle.per_bits.proofs.WrittenLaws.{put_if}
-use Rattle.s1ap_rows.specs.declared.criticality.Criticality.{Criticality}
 use Rattle.s1ap_rows.specs.Criticalities.{criticality_number}
 use Rattle.s1ap_rows.specs.Rows.{Rows, ie, end, needed, optional, unkept, Kept}
-use Rattle.s1ap_rows.specs.Writing.{write_element, count_of, write_rows, write_message, write_frame, write_front, write_pdu, write_head}
+use Rattle.s1ap_rows.specs.Writing.{count_of, write_rows, write_message, write_frame, write_front, write_pdu, write_head}
 use Rattle.s1ap_rows.proofs.Fronts.{front_written, head_of, head_octets, head_refused, head_written}
 
 abbrev Out : Type 0
@@ -37,19 +36,20 @@ write_content rs v out = do
 number_placed : (lo hi n : ℕ) → Placed (write_number lo hi n)
 number_placed lo hi n = placed_at (number lo hi) n
 
-element_placed : (id : ℕ) (c : Criticality) (f : Format) (v : Value f) → Placed (write_element id c f v)
-element_placed id c f v =
-    let n = criticality_number c in
+element_placed : (id n : ℕ) (f : Format) (v : Value f) → Placed (write_element id n f v)
+element_placed id n f v =
     placed_then (write_number 0 65535 id) (λ a. write_number 0 2 n a >>= λ b. write_at (open_type f) v b) (number_placed 0 65535 id)
     (placed_then (write_number 0 2 n) (write_at (open_type f) v) (number_placed 0 2 n) (placed_at (open_type f) v))
 
 rows_placed : (rs : Rows) (v : Kept rs) → Placed (write_rows rs v)
 rows_placed end v = placed_nothing
 rows_placed (ie id c needed f rs) v =
-    placed_then (write_element id c f v.0) (write_rows rs v.1) (element_placed id c f v.0) (rows_placed rs v.1)
+    placed_then (write_element id (criticality_number c) f v.0) (write_rows rs v.1) (element_placed id (criticality_number c) f v.0)
+    (rows_placed rs v.1)
 rows_placed (ie id c optional f rs) (None, v) = rows_placed rs v
 rows_placed (ie id c optional f rs) (Some x, v) =
-    placed_then (write_element id c f x) (write_rows rs v) (element_placed id c f x) (rows_placed rs v)
+    placed_then (write_element id (criticality_number c) f x) (write_rows rs v) (element_placed id (criticality_number c) f x)
+    (rows_placed rs v)
 rows_placed (ie id c unkept f rs) v = rows_placed rs v
 
 pub message_placed : (rs : Rows) (v : Kept rs) → Placed (write_message rs v)

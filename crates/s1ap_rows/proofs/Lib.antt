@@ -1,6 +1,5 @@
 pub mod Gathering
 pub mod WritableLaws
 pub mod InPlace
-pub mod Heads
-pub mod Marked
+pub mod Criticalities
 pub mod Fronts

@@ -5,7 +5,7 @@ use Rattle.per_streams.specs.declared.fault.PerFault.{PerFault}
 use Rattle.per_streams.specs.declared.fault.PerFault.TheVariants.{Range}
 use Rattle.per_streams.specs.Bits.{◌>>=◌, padded}
 use Rattle.per_bits.specs.Formats.{Format, Value, number, octet_string, open_type, raw}
-use Rattle.per_bits.specs.Writing.{write_at, write_each, write_string, write_whole, complete_write}
+use Rattle.per_bits.specs.Writing.{write_at, write_each, write_element, write_string, write_whole, complete_write}
 use Rattle.per_streams.specs.Writing.{write_number}
 use Rattle.per_bits.specs.Written.{number_fits, string_fits, written, writable}
 use Rattle.per_bits.proofs.WrittenLaws.{put_if, writes, whole_written}
@@ -13,7 +13,7 @@ use Rattle.s1ap_rows.specs.declared.criticality.Criticality.{Criticality}
 use Rattle.s1ap_rows.specs.Criticalities.{criticality_number}
 use Rattle.s1ap_rows.specs.Rows.{Rows, ie, end, needed, optional, unkept, Kept}
 use Rattle.s1ap_rows.specs.Spelling.{Raw, message}
-use Rattle.s1ap_rows.specs.Writing.{write_element, count_of, write_rows, write_message, write_frame, write_pdu}
+use Rattle.s1ap_rows.specs.Writing.{count_of, write_rows, write_message, write_frame, write_pdu}
 use Rattle.s1ap_rows.specs.Writable.{raw_of, elements_of, values_fit, message_fits}
 
 abbrev Bits : Type 0
@@ -64,7 +64,7 @@ open_is true f v out e = rw (complete_is f v, e) refl
 open_is false f v out e = rw (complete_is f v, e) refl
 
 element_if : (b : Bool) (id : ℕ) (c : Criticality) (f : Format) (v : Value f) (out : Bits) → writable f v ≡ b
-    → write_element id c f v out ≡ cond b (write_at raw (raw_of id c f v) out) range
+    → write_element id (criticality_number c) f v out ≡ cond b (write_at raw (raw_of id c f v) out) range
 element_if true id c f v out e =
     let n = criticality_number c in
     let os = padded (written f v 0) in
@@ -93,11 +93,13 @@ rows_if : (rs : Rows) (v : Kept rs) (out : Bits)
 unfolding write_each
 rows_if end v out = refl
 rows_if (ie id c needed f rs) v out =
-    first_then (writable f v.0) (values_fit rs v.1) (raw_of id c f v.0) (elements_of rs v.1) (write_element id c f v.0 out)
+    first_then (writable f v.0) (values_fit rs v.1) (raw_of id c f v.0) (elements_of rs v.1)
+    (write_element id (criticality_number c) f v.0 out)
     (λ first. write_rows rs v.1 first) out (element_if (writable f v.0) id c f v.0 out refl) (λ mid. rows_if rs v.1 mid)
 rows_if (ie id c optional f rs) (None, v) out = rows_if rs v out
 rows_if (ie id c optional f rs) (Some x, v) out =
-    first_then (writable f x) (values_fit rs v) (raw_of id c f x) (elements_of rs v) (write_element id c f x out)
+    first_then (writable f x) (values_fit rs v) (raw_of id c f x) (elements_of rs v)
+    (write_element id (criticality_number c) f x out)
     (λ first. write_rows rs v first) out (element_if (writable f x) id c f x out refl) (λ mid. rows_if rs v mid)
 rows_if (ie id c unkept f rs) v out = rows_if rs v out
 

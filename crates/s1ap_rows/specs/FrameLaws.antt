@@ -20,7 +20,7 @@ use Rattle.s1ap_rows.specs.Writing.{write_frame, write_head}
 
 -- ---- reading
 
-exact_frame : Exact SpellsFrame frame_at
+pub exact_frame : Exact SpellsFrame frame_at
 unfolding frame_at
 exact_frame =
     exact_pair (SpellsClosed (SpellsNumber 0 2)) (Spells body) (closed_at Alternative (number_at 0 2)) (read_at body)

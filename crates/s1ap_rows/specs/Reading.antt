@@ -22,12 +22,6 @@ abbrev pub syntax_of : {A : Type 0} → Result A PerFault → Result A S1apFault
 syntax_of (Ok x) = Ok x
 syntax_of (Err e) = Err (Syntax e)
 
--- the octets of an element's value, after its id: its criticality stands before them, and says nothing of a row's element
-abbrev pub marked_at : Place → Result (List ℕ × Place) PerFault
-marked_at s = do
-  criticality ← number_at 0 2 s
-  open_at criticality.1
-
 -- an element of no row, after its id
 abbrev pub pass_at : ℕ → Place → Result (Unit {0} × Place) S1apFault
 pass_at id s =

@@ -2,22 +2,17 @@
 use Rattle.std.specs.Prelude.{ℕ, ◌+◌, Bool, false, List, [], ◌∷◌, ◌++◌, length, Option, Some, None, Result, Ok}
 use Rattle.per_streams.specs.declared.fault.PerFault.{PerFault}
 use Rattle.per_streams.specs.Bits.{◌>>=◌, bits, pad}
-use Rattle.per_bits.specs.Formats.{Format, Value, open_type}
-use Rattle.per_bits.specs.Writing.{write_at, write_string, write_whole}
+use Rattle.per_bits.specs.Formats.{Format, Value}
+use Rattle.per_bits.specs.Writing.{write_element, write_string, write_whole}
 use Rattle.per_streams.specs.Writing.{write_number}
 use Rattle.s1ap_rows.specs.declared.criticality.Criticality.{Criticality}
 use Rattle.s1ap_rows.specs.Criticalities.{criticality_number}
 use Rattle.s1ap_rows.specs.Rows.{Rows, ie, end, needed, optional, unkept, Kept}
 
-abbrev pub write_element : ℕ → Criticality → (f : Format) → Value f → List Bool → Result (List Bool) PerFault
-write_element id c f v out = do
-  a ← write_number 0 65535 id out
-  b ← write_number 0 2 (criticality_number c) a
-  write_at (open_type f) v b
-
+-- an element of a row, where there is one
 abbrev pub write_some : ℕ → Criticality → (f : Format) → Option (Value f) → List Bool → Result (List Bool) PerFault
 write_some id c f None out = Ok out
-write_some id c f (Some v) out = write_element id c f v out
+write_some id c f (Some v) out = write_element id (criticality_number c) f v out
 
 abbrev pub one_if : {A : Type 0} → Option A → ℕ
 one_if None = 0
@@ -33,7 +28,7 @@ count_of (ie id c unkept f rs) v n = count_of rs v n
 abbrev pub write_rows : (rs : Rows) → Kept rs → List Bool → Result (List Bool) PerFault
 write_rows end v out = Ok out
 write_rows (ie id c needed f rs) v out = do
-  first ← write_element id c f v.0 out
+  first ← write_element id (criticality_number c) f v.0 out
   write_rows rs v.1 first
 write_rows (ie id c optional f rs) v out = do
   first ← write_some id c f v.0 out

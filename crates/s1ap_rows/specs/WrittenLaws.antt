@@ -6,15 +6,14 @@ use Rattle.std.proofs.lemmas.List.{append-nil}
 use Rattle.per_streams.specs.Bits.{◌>>=◌, padded}
 use Rattle.per_bits.specs.Formats.{Format, Value, open_type, raw}
 use Rattle.per_bits.specs.Spelling.{SpellsWhole}
-use Rattle.per_bits.specs.Writing.{write_at, write_each, write_string, write_whole, complete_write}
+use Rattle.per_bits.specs.Writing.{write_at, write_each, write_element, write_string, write_whole, complete_write}
 use Rattle.per_streams.specs.Writing.{write_number}
 use Rattle.per_streams.specs.BitLaws.{bind_ok}
 use Rattle.per_bits.specs.WritingLaws.{complete_written}
-use Rattle.s1ap_rows.specs.declared.criticality.Criticality.{Criticality}
 use Rattle.s1ap_rows.specs.Criticalities.{criticality_number}
 use Rattle.s1ap_rows.specs.Rows.{Rows, ie, end, needed, optional, unkept, Slots, Kept, has_row, are_distinct}
 use Rattle.s1ap_rows.specs.Spelling.{Raw, id_of, octets_of, has_id, OfRow, AreElements, IsKept, message, IsMessage}
-use Rattle.s1ap_rows.specs.Writing.{write_element, count_of, write_rows, write_message}
+use Rattle.s1ap_rows.specs.Writing.{count_of, write_rows, write_message}
 
 -- ---- the elements that are written
 
@@ -39,18 +38,17 @@ record Written (id : ℕ) (f : Format) (v : Value f) (out new : List Bool) : Typ
   holds : Holds id f v e
   same : write_at raw e out ≡ Ok new
 
-element_written : (id : ℕ) (c : Criticality) (f : Format) (v : Value f) (out new : List Bool) → write_element id c f v out ≡ Ok new
+element_written : (id n : ℕ) (f : Format) (v : Value f) (out new : List Bool) → write_element id n f v out ≡ Ok new
     → Written id f v out new
-element_written id c f v out new h =
+element_written id n f v out new h =
     let a =
-    bind_ok (write_number 0 65535 id out)
-    (λ a. write_number 0 2 (criticality_number c) a >>= λ b. write_at (open_type f) v b) new h in
-    let b = bind_ok (write_number 0 2 (criticality_number c) a.0) (λ b. write_at (open_type f) v b) new a.2 in
+    bind_ok (write_number 0 65535 id out) (λ a. write_number 0 2 n a >>= λ b. write_at (open_type f) v b) new h in
+    let b = bind_ok (write_number 0 2 n a.0) (λ b. write_at (open_type f) v b) new a.2 in
     let o = bind_ok (complete_write f v) (λ os. write_string os b.0) new b.2 in
     record {
-      e = (id, (criticality_number c, (o.0, tt)));
+      e = (id, (n, (o.0, tt)));
       holds = (refl, complete_written f v o.0 o.1);
-      same = raw_written out a.0 b.0 new id (criticality_number c) o.0 a.1 b.1 o.2;
+      same = raw_written out a.0 b.0 new id n o.0 a.1 b.1 o.2;
     }
 
 record Elements (rs : Rows) (v : Kept rs) (n : ℕ) (out new : List Bool) : Type 0 where
@@ -71,8 +69,8 @@ rows_written : (rs : Rows) (v : Kept rs) (n : ℕ) (out new : List Bool) → wri
 unfolding write_each
 rows_written end v n out new h = record { es = []; written = refl; count = omega arith; same = h }
 rows_written (ie id c needed f rs) v n out new h =
-    let a = bind_ok (write_element id c f v.0 out) (λ first. write_rows rs v.1 first) new h in
-    let w = element_written id c f v.0 out a.0 a.1 in
+    let a = bind_ok (write_element id (criticality_number c) f v.0 out) (λ first. write_rows rs v.1 first) new h in
+    let w = element_written id (criticality_number c) f v.0 out a.0 a.1 in
     let k = rows_written rs v.1 (n + 1) a.0 new a.2 in
     record {
       es = w.e ∷ k.es;
@@ -84,8 +82,8 @@ rows_written (ie id c optional f rs) (None, v) n out new h =
     let k = rows_written rs v (n + 0) out new h in
     record { es = k.es; written = k.written; count = (let q = k.count in omega (arith, q)); same = k.same }
 rows_written (ie id c optional f rs) (Some x, v) n out new h =
-    let a = bind_ok (write_element id c f x out) (λ first. write_rows rs v first) new h in
-    let w = element_written id c f x out a.0 a.1 in
+    let a = bind_ok (write_element id (criticality_number c) f x out) (λ first. write_rows rs v first) new h in
+    let w = element_written id (criticality_number c) f x out a.0 a.1 in
     let k = rows_written rs v (n + 1) a.0 new a.2 in
     record {
       es = w.e ∷ k.es;

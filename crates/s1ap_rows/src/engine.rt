@@ -1,26 +1,24 @@
 //! The elements of a message, in any order.
 
-ghost use Rattle.std.specs.Prelude.{true, ◌↔◌, ◌≡◌, ◌%◌, ◌/◌, ◌≤◌, OnErr, option_map};
-ghost use Rattle.per_streams.specs.Bits.{Place, Answers};
+ghost use Rattle.std.specs.Prelude.{◌≡◌, ◌≤◌, OnErr, option_map};
+ghost use Rattle.per_streams.specs.Bits.{Place};
 ghost use Rattle.per_streams.specs.Reading.{number_at};
 ghost use Rattle.per_streams.specs.Writing.{Wrote};
+ghost use Rattle.per_bits.specs.Writing.{write_element};
 ghost use Rattle.s1ap_rows.specs.Criticalities.{criticality_number};
 ghost use Rattle.s1ap_rows.specs.Spelling.{may_skip};
-ghost use Rattle.s1ap_rows.specs.Reading.{marked_at, pass_at, fill_slot, elements_at, fill_at};
-ghost use Rattle.s1ap_rows.specs.Writing.{write_element, write_some, one_if};
+ghost use Rattle.s1ap_rows.specs.Reading.{pass_at, fill_slot, elements_at, fill_at};
+ghost use Rattle.s1ap_rows.specs.Writing.{write_some, one_if};
 ghost use Rattle.s1ap_rows.specs.Answers.{Reads};
 
 use crate::criticality::{Criticality, take_criticality};
 use crate::fault::S1apFault;
 use crate::message::Message;
 use per_bits::{
-    BitReader, BitWriter, Element, GREATEST_ID, PerError, PerFault, offset_of, read_complete,
-    skip_additions, take_open, write_counted,
+    BitReader, BitWriter, Element, PerError, offset_of, read_complete, skip_additions, take_id,
+    take_marked, take_open,
 };
 use std::alloc::Global;
-
-// A length below 128 is one octet (X.691 clause 11.9).
-const SHORT_END: u8 = 128;
 
 /// The most elements of a message (TS 36.413 clause 9.3.7).
 pub const MOST_ELEMENTS: u64 = 65535;
@@ -68,46 +66,6 @@ fn fill_slot<'a, T: Element<'a>>(
     Ok(())
 }
 
-// The octets of an element's value, after its criticality; mostly two octets stand before these, the second their count.
-#[inline(always)]
-fn take_marked<'a>(reader: &mut BitReader<'a>) -> Result<&'a [u8], PerFault>
-    ensures { Answers (λ os. os.now) result reader.new (marked_at reader.old) }
-{
-    if let Some(head) = reader.next_two() {
-        let [mark, count] = head;
-        if is_mark(mark) && count < SHORT_END {
-            reader.pass_two();
-            return reader.octets_here(count as usize);
-        }
-    }
-    take_mark_apart(reader)
-}
-
-// whether an octet has a criticality in its first two bits, and then zero bits
-#[inline(always)]
-fn is_mark(octet: u8) -> bool
-    ensures { (result ≡ true) ↔ ((octet % 64 ≡ 0) × (octet / 64 ≤ 2)) }
-{
-    octet % 64 == 0 && octet / 64 <= 2
-}
-
-// where the head is any other; a function between, since the place of a call's answer is cleared where its caller begins
-#[inline(always)]
-fn take_mark_apart<'a>(reader: &mut BitReader<'a>) -> Result<&'a [u8], PerFault>
-    ensures { Answers (λ os. os.now) result reader.new (marked_at reader.old) }
-{
-    take_any_mark(reader)
-}
-
-// out of line, as it would make every read of an element large
-#[inline(never)]
-fn take_any_mark<'a>(reader: &mut BitReader<'a>) -> Result<&'a [u8], PerFault>
-    ensures { Answers (λ os. os.now) result reader.new (marked_at reader.old) }
-{
-    take_criticality(reader)?;
-    take_open(reader)
-}
-
 // Whether an element of no row is passed over.
 fn may_skip(id: u16, criticality: Criticality) -> bool
     ensures { result ≡ may_skip id (criticality_number criticality) }
@@ -129,14 +87,6 @@ pub fn pass(id: u16, reader: &mut BitReader) -> Result<(), S1apFault>
     } else {
         Err(S1apFault::RefusedElement(id))
     }
-}
-
-#[tactic(auto, unfolding(per_streams::specs::Reading::number_at))]
-fn take_id(reader: &mut BitReader) -> Result<u16, PerFault>
-    ensures { Answers (λ n. n) result reader.new (number_at 0 65535 reader.old) }
-{
-    let id = offset_of(GREATEST_ID, reader)?;
-    Ok(id as u16)
 }
 
 fn read_elements<'a, M: Message<'a>>(
@@ -172,7 +122,7 @@ pub fn fill_message<'a, M: Message<'a>>(
     Ok(())
 }
 
-/// Writes an element of a row: its id, its criticality, and its value as an open type (TS 36.413 clause 9.3.7).
+/// Writes an element of a row.
 pub fn put_element<'a, T: Element<'a>>(
     alloc: Global,
     id: u16,
@@ -180,17 +130,9 @@ pub fn put_element<'a, T: Element<'a>>(
     value: &T,
     writer: &mut BitWriter,
 ) -> Result<(), PerError>
-    ensures { Wrote result writer.new (write_element id criticality T.format (T.view value.now) writer.old) }
+    ensures { Wrote result writer.new (write_element id (criticality_number criticality) T.format (T.view value.now) writer.old) }
 {
-    writer.align()?;
-    // the criticality has two bits of its octet; the last octet is for the length of the value
-    writer.put_octets(&[
-        (id / 256) as u8,
-        (id % 256) as u8,
-        criticality.number() * 64,
-        0,
-    ])?;
-    write_counted::<T>(alloc, value, writer)
+    per_bits::put_element::<T>(alloc, id, criticality.number(), value, writer)
 }
 
 /// Writes an element of a row, where there is one.

@@ -1,7 +1,7 @@
 use Rattle.std.proofs.Common.{◌*◌, ◌/◌, ◌%◌, Bool, List, [], ◌∷◌, ◌++◌, Ok, refl, sym, ap, ◌∙◌}
 use Rattle.per_streams.specs.Bits.{octet_bits}
 use Rattle.s1ap_rows.specs.Criticalities.{criticality_number}
-use Rattle.s1ap_rows.proofs.Heads.{criticality_few}
+use Rattle.s1ap_rows.proofs.Criticalities.{criticality_few}
 use Rattle.s1ap_rows.proofs.Fronts.{front_written, head_refused}
 use Rattle.s1ap_rows.proofs.frame.put_front.Goals as goal
 

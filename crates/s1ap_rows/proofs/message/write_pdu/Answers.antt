@@ -1,7 +1,7 @@
 use Rattle.std.proofs.Common.{◌<◌, arith, rules}
 use Rattle.std.proofs.lemmas.Result.{err_from_is_err_and}
 use Rattle.s1ap_rows.specs.Criticalities.{criticality_number}
-use Rattle.s1ap_rows.proofs.Heads.{criticality_few}
+use Rattle.s1ap_rows.proofs.Criticalities.{criticality_few}
 use Rattle.s1ap_rows.proofs.Fronts.{count_within}
 use Rattle.s1ap_rows.proofs.InPlace.{front_fails, has_begun, has_room, length_fails, pdu_written, rows_fail}
 use Rattle.s1ap_rows.proofs.message.write_pdu.Goals as goal

@@ -1,8 +1,8 @@
 use Rattle.std.proofs.Common.{◌≡◌, ◌%◌, sym, arith}
 use Rattle.per_streams.specs.TwoOctets.{past_two, two_stand}
 use Rattle.per_streams.specs.WholeOctets.{whole_here}
-use Rattle.s1ap_rows.proofs.Marked.{marked_is}
-use Rattle.s1ap_rows.proofs.engine.take_marked.Goals as goal
+use Rattle.per_bits.proofs.Marked.{marked_is}
+use Rattle.per_bits.proofs.protocol_ie.take_marked.Goals as goal
 
 pub octets_here-requires : goal.octets_here-requires
 octets_here-requires c =

@@ -1,16 +1,16 @@
 -- The octets of an element's value, where its criticality and their count are the two octets before them.
-use Rattle.std.proofs.Common.{◌≡◌, ℕ, ◌+◌, ◌-◌, ◌*◌, ◌/◌, ◌%◌, ◌^◌, ◌<◌, ◌≤◌, Bool, false, List, ◌++◌, length, drop, replicate, Ok, refl, sym, ap, ◌∙◌, append_assoc, arith}
+use Rattle.std.proofs.Common.{◌≡◌, ℕ, ◌+◌, ◌-◌, ◌*◌, ◌/◌, ◌%◌, ◌<◌, ◌≤◌, Bool, false, List, ◌++◌, length, drop, replicate, Ok, refl, sym, ap, ◌∙◌, append_assoc, arith}
 use Rattle.std.proofs.lemmas.Bool.{lt-ltb}
 use Rattle.std.proofs.lemmas.List.{append-nil, length-append, length-replicate}
 use Rattle.per_streams.specs.Bits.{Place, bits, octet_bits, pad, padding, length_at, open_at, aligned_octets_at}
-use Rattle.per_streams.specs.BitLaws.{bits-zero, length-bits}
-use Rattle.per_streams.specs.PartLaws.{bits-join}
+use Rattle.per_streams.specs.BitLaws.{length-bits}
 use Rattle.per_streams.specs.TwoOctets.{past_two, Stand}
 use Rattle.per_streams.specs.Numbers.{offset_bits, width_of, whole}
 use Rattle.per_streams.specs.Reading.{number_at}
 use Rattle.per_bits.specs.Spelling.{length_octets}
 use Rattle.per_bits.specs.FormatLaws.{exact_number, exact_length}
-use Rattle.s1ap_rows.specs.Reading.{marked_at}
+use Rattle.per_bits.specs.HeadLaws.{mark_octet}
+use Rattle.per_bits.specs.Reading.{marked_at}
 
 two_bits : (k at : ℕ) → bits 2 k ≡ whole 0 2 k at
 unfolding offset_bits width_of
@@ -25,10 +25,8 @@ unfolding open_at
 marked_is mark count s h zeros few short =
     let k : ℕ = mark / 64 in
     let after : List Bool = drop 16 s.rest in
-    let shifted : mark ≡ k * 2 ^ 6 + 0 = omega arith in
-    let octet : bits 8 mark ≡ bits 2 k ++ replicate 6 false =
-    ap (bits 8) shifted ∙ bits-join 2 6 k 0 (omega arith) (omega arith)
-    ∙ ap (λ (l : List Bool). bits 2 k ++ l) (bits-zero 6) in
+    let shifted : mark ≡ k * 64 = omega arith in
+    let octet : bits 8 mark ≡ bits 2 k ++ replicate 6 false = ap (bits 8) shifted ∙ mark_octet k few in
     let at : ℕ = s.at + length (bits 2 k) in
     let whole_octet = h.at in
     let six : padding at ≡ 6 = omega (arith, length-bits 2 k, whole_octet) in
