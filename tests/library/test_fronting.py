@@ -6,6 +6,7 @@ These are tests of tests/tools whose front has the library in the program's plac
 """
 import contextlib
 import itertools
+import os
 import pathlib
 import re
 import runpy
@@ -45,6 +46,7 @@ NOT_BUILT = "the program isn't built (./mme --prove)"
 # as much a machine with other work may take.
 ONE, ALL, TURN, ROOM = 0.01, 10, 0.05, 4
 LONG = 100000  # lines of a log
+MOMENTS = 100 if os.environ.get("CI") == "true" else 10  # at which a front is killed in a storm
 OF_THE_RUN = re.compile("seconds|answer_seconds_mean|memory_octets|mme_memory_octets|log_octets")
 PROVISIONED_TWICE = fronted.HEAD + fronted.HEAD.splitlines()[1] + "\n"
 
@@ -768,10 +770,10 @@ class Storms(test_front_kills.Storms):
         """Killed at random moments of attaches, gives and snapshots, a front goes on after the newest: nothing is used twice, and
         who was registered still is, and is served."""
         violations, counted, said = test_front_kills.storm(
-            self.program, "--runs", "10", "--gives", "--ends", "kill", "kill", "kill", "clean", "--", *OFTEN)
+            self.program, "--runs", str(MOMENTS), "--gives", "--ends", "kill", "--", *OFTEN)
         self.assertEqual(violations, [], said)
         self.assertEqual([name for name in (*test_front_kills.DONE, "vectors given") if not counted[name]], [], said)
-        self.assertEqual(counted["beginnings that went on"], 10, said)
+        self.assertEqual(counted["beginnings that went on"], MOMENTS, said)
         self.assertGreater(counted["snapshots"], 1, said)
 
     def test_source(self):

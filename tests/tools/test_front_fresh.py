@@ -8,13 +8,16 @@ import pathlib
 import resource
 import shutil
 import signal
+import subprocess
+import sys
 import tempfile
 import unittest
+import unittest.mock
 
 from tests.tools.fronted import HEAD, IMSI, PROGRAM, REMEMBERED, STAND_IN, Running, events_of, said
 from tests.tools.test_front_log import LTE, PHONES, Talk, whole
 from tools import runs, s1ap
-from tools.fronting import associations, challenges, journal, locking, provisioning, resuming, segments, used
+from tools.fronting import associations, challenges, journal, limits, locking, provisioning, resuming, segments, used
 from tools.fronting.faults import Failed
 
 STILL = ("--second", "86400")  # a run in which no time passes
@@ -435,6 +438,27 @@ class Locked(unittest.TestCase):
         os.truncate(made.path, 0)
         with self.assertRaisesRegex(Failed, "another front has this log$"):
             locking.Lock(str(folder / "log"))
+
+    def left_by(self, log, seconds):
+        """The number of a process that took the lock and was killed, while a child of it has it for so many seconds more."""
+        words = "import os, sys, time; from tools.fronting import locking; lock = locking.Lock(sys.argv[1])\n" \
+            "if os.fork():\n    print(flush=True)\n    time.sleep(60)\ntime.sleep(float(sys.argv[2]))"
+        with subprocess.Popen([sys.executable, "-c", words, log, str(seconds)], cwd=pathlib.Path(__file__).parents[2],
+                              stdout=subprocess.PIPE) as running:
+            running.stdout.readline()
+            running.kill()
+        return running.pid
+
+    def test_child_of_one_that_was_killed(self):
+        """Where the front was killed, a child of it that still goes is waited for, and not for ever."""
+        log = str(pathlib.Path(self.enterContext(tempfile.TemporaryDirectory())) / "log")
+        self.left_by(log, 0.5)
+        locking.Lock(log).close()
+        number = self.left_by(log, 2)
+        with unittest.mock.patch.object(limits, "LOCK_SECONDS", 0.2), \
+                self.assertRaisesRegex(Failed, "another front has this log: process %d$" % number):
+            locking.Lock(log)
+        locking.Lock(log).close()
 
 
 @unittest.skipUnless(PROGRAM.exists(), "the program isn't built (./mme --prove)")

@@ -28,6 +28,7 @@ PLAYED_OCTETS = 1 << 16  # the same where a log alone is played, and octets of o
 FIRST_SECONDS = 30  # for the MME to take the head and to answer
 ANSWER_SECONDS = 10  # without a word of the MME while an answer is due
 LAST_SECONDS = 5  # for it to end
+LOCK_SECONDS, LOCK_APART = 5, 0.02  # for the children of a front that is gone to leave its log, and between two looks
 SENDING_SECONDS = 1  # for what waits to be sent at the end, and for an MME to end by a signal
 
 FEW_VECTORS, NEVER_FEW = 3, -1  # left of a phone, of which the front says so; where a source supplies more, it doesn't

@@ -153,9 +153,9 @@ class Making:
         try:
             if rest == threads:
                 file, moment = self.begin_one()
-                pid = os.fork()
+                parent, pid = os.getpid(), os.fork()
                 if pid == 0:
-                    self.save_in_child(file, moment)
+                    self.save_in_child(file, moment, parent)
         except OSError as fault:
             self.has_fault(told(fault))
         finally:
@@ -185,9 +185,11 @@ class Making:
                     up.add(int(number))
         return sorted(up)
 
-    def save_in_child(self, file, moment):
+    def save_in_child(self, file, moment, parent):
         """Makes it in the child, which has nothing else of the front's, and ends."""
         LIBC.prctl(ENDS_WITH_PARENT, signal.SIGKILL)
+        if os.getppid() != parent:  # which ended before
+            os._exit(REFUSED)
         status, limit = REFUSED, resource.getrlimit(resource.RLIMIT_NOFILE)[0]
         limit = MOST_FILES if limit == resource.RLIM_INFINITY else limit
         try:
